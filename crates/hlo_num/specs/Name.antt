@@ -1,5 +1,5 @@
 -- What may be a name.
-use Rattle.std.specs.Prelude.{◌≡◌, ◌<◌, ◌&&◌, ◌||◌, ◌==◌, ℕ, Bool, List, length, nat_le, IsTrue}
+use Rattle.std.specs.Prelude.{◌<◌, ◌&&◌, ◌||◌, ◌==◌, ℕ, Bool, List, length, nat_le, IsTrue}
 use Rattle.std.specs.List.{list_all}
 
 -- a letter of ASCII, a digit, `_`, `.` or `$`
