@@ -1,0 +1,5 @@
+pub mod Charges
+pub mod Rows
+pub mod Sound
+pub mod State
+pub mod Steps

@@ -1,0 +1,109 @@
+//! The events, and why one is refused.
+
+use hlo_num::Seq;
+
+/// The form in which a free pool lies in memory.
+#[derive(Clone, Copy, Debug, PartialEq, Eq)]
+pub enum Form {
+    Expanded,
+    Compacted,
+}
+
+/// What a pool is pinned or reloaded for. A write states how many bytes the new value may take.
+#[derive(Clone, Copy, Debug, PartialEq, Eq)]
+pub enum Mode {
+    Read,
+    Write { room: u64 },
+}
+
+/// An event of the paging core. `e` is a body's charge and `c` the length of its compact spelling, both
+/// in bytes; `wanted` is how many bytes the worker is about to place.
+#[derive(Debug, Drop)]
+pub enum Event {
+    /// A new pool, free in the form.
+    Insert { pid: u32, form: Form, e: u64, c: u32 },
+    /// A pool goes.
+    Remove { pid: u32 },
+    /// A wave begins with these tasks.
+    BeginWave { tasks: Seq<u32> },
+    /// The wave ends.
+    EndWave,
+    /// The worker takes the first task that nobody claimed.
+    Claim { worker: u32 },
+    /// The worker reads a body.
+    PinRead { worker: u32, pid: u32 },
+    /// The worker writes a body, whose new value takes at most `room` bytes.
+    PinWrite { worker: u32, pid: u32, room: u64 },
+    /// The worker begins to expand a pool, from its compact bytes or from the disk.
+    ReloadBegin { worker: u32, pid: u32, mode: Mode },
+    /// The pool is expanded and pinned by the worker.
+    ReloadEnd { worker: u32, pid: u32 },
+    /// The worker reads no longer. The last reader leaves the pool in the form.
+    UnpinRead { worker: u32, pid: u32, form: Form },
+    /// The worker has written a new value, which it leaves in the form.
+    UnpinWrite { worker: u32, pid: u32, form: Form, e: u64, c: u32 },
+    /// The worker begins to compact the victim.
+    CompactBegin { worker: u32, pid: u32, wanted: u64 },
+    /// The pool is compacted.
+    CompactEnd { worker: u32, pid: u32 },
+    /// The worker begins to write the victim to the disk.
+    OffloadBegin { worker: u32, pid: u32, wanted: u64 },
+    /// The pool lies on the disk alone.
+    OffloadEnd { worker: u32, pid: u32 },
+    /// The worker tells a failure. The first one is kept, and no event but `Fail` follows.
+    Fail { worker: u32, failure: Failure },
+}
+
+/// Why an event is refused, in the order in which the parts of its row are tested.
+#[derive(Clone, Copy, Debug, PartialEq, Eq)]
+pub enum Refusal {
+    /// A failure is kept.
+    Stopped,
+    /// The pool, or some task's pool, is not there.
+    Absent,
+    /// The pool is there already, or a task stands twice.
+    Present,
+    /// The worker does not hold the pool in that way.
+    NotHeld,
+    /// The worker's hand lacks a free place that the event needs.
+    HandFull,
+    /// No task is unclaimed, no wave is open, or the pool is not the worker's task.
+    NoTask,
+    /// The pool is on its way between two forms.
+    Moving,
+    /// The pool has a form that the event does not take.
+    WrongForm,
+    /// A pin, a wave, a full hand or a task that is not done stands against it.
+    InUse,
+    /// A worker has the disk.
+    DiskOut,
+    /// The bytes wanted fit without a move.
+    Fits,
+    /// Another pool is to go first.
+    NotVictim,
+    /// 4,096 pools are there.
+    Full,
+    /// A number is outside its range.
+    BadSize,
+    /// The compact form, of so many bytes, is longer than the limit.
+    TooSmall(u32),
+    /// The form, of so many bytes, does not fit now.
+    NeedsRoom(u64),
+}
+
+/// A failure that stops the events.
+#[derive(Clone, Copy, Debug, PartialEq, Eq)]
+pub enum Failure {
+    /// The disk failed.
+    Repository,
+    /// A record has other bytes than those filed: their SHA-256 and the one kept differ.
+    Damaged { place: u64, kept: [u8; 32], found: [u8; 32] },
+    /// A record's bytes spell no body.
+    Unreadable { place: u64 },
+    /// A body is not fit for the job.
+    Unfit { pid: u32 },
+    /// A compact form is longer than the limit.
+    TooSmall { pid: u32, need: u32, limit: u64 },
+    /// Memory was wanting.
+    Memory,
+}

@@ -1,0 +1,14 @@
+//! The paging core: which pools there are, where each lies, who holds it, and which events may happen.
+//!
+//! A pool is a routine's body in one of several forms. [`CoreState`] keeps the numbers of every pool
+//! and no body; each event of [`Event`] is taken by [`CoreState::step`], or refused and then changes
+//! nothing. Under every list of events the bytes that nobody holds stay within the limit.
+#![tactic(auto)]
+
+mod event;
+mod pool;
+mod state;
+
+pub use event::{Event, Failure, Form, Mode, Refusal};
+pub use pool::{Pool, PoolForm, PoolView, Stage};
+pub use state::Hand;
