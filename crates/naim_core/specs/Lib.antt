@@ -3,3 +3,4 @@ pub mod Rows
 pub mod Sound
 pub mod State
 pub mod Steps
+pub mod Table

@@ -8,6 +8,7 @@
 mod event;
 mod pool;
 mod state;
+mod table;
 
 pub use event::{Event, Failure, Form, Mode, Refusal};
 pub use pool::{Pool, PoolForm, PoolView, Stage};

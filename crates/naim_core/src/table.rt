@@ -1,0 +1,231 @@
+//! The pools in their use order.
+ghost use Rattle.std.specs.Prelude.{◌≡◌, ◌+◌, ◌<◌, ◌≤◌, ◌^◌, ◌∷◌, [], nat_eq, length, slice_set, None, IsSome, IfOk};
+ghost use Rattle.std.specs.Map.{remove_entry};
+ghost use Rattle.naim_core.specs.Charges.{under_sum, held_sum, under_part, held_part};
+ghost use Rattle.naim_core.specs.State.{pool_at, victim};
+ghost use Rattle.naim_core.specs.Steps.{front, in_place};
+ghost use Rattle.naim_core.specs.Table.{IsFound, IsIndexed, IsOrder};
+
+use crate::pool::Pool;
+use lru::LruCache;
+use std::alloc::{AllocError, Global};
+use std::marker::Model;
+use std::num::NonZeroUsize;
+
+/// How many pools there may be.
+pub(crate) const SLOTS: u16 = 4096;
+
+/// PIDs below this are found in constant time; every PID of a program is.
+const INDEXED: usize = 131_072;
+
+/// A slot's content: a PID and its pool, or nothing.
+type Place = Option<(u32, Pool)>;
+
+/// At most 4,096 pools by PID. Contracts see the list of PIDs and pools in the use order, the last
+/// used first.
+#[derive(Drop)]
+pub(crate) struct Table {
+    /// All slots, of which each holds a pool or is empty, in the use order.
+    order: LruCache<u16, Place>,
+    /// The slot of each PID below [`INDEXED`].
+    index: Vec<Option<u16>>,
+    /// The empty slots.
+    spare: Vec<u16>,
+    /// The bytes that count against the limit, over all pools.
+    under: u64,
+    /// The bytes that workers hold, over all pools.
+    held: u64,
+}
+
+impl Model for Table {
+    ghost use Rattle.std.specs.Prelude.{List, ℕ, vec_capacity};
+    ghost use Rattle.naim_core.specs.declared.pool.Pool.{Pool as PoolRecord};
+
+    ghost Value = { List (ℕ × PoolRecord) };
+
+    ghost use Rattle.naim_core.specs.Table.{pools_in, IsTable};
+
+    ghost view = { λ t. pools_in t.order.entries };
+
+    ghost invariant = { λ t. IsTable t.order.entries t.index.items t.spare.items (vec_capacity t.spare) t.under t.held };
+}
+
+/// The slot of the pool `pid` and the pool. It takes constant time for a PID below [`INDEXED`], and
+/// otherwise goes over all slots.
+fn found_at(order: &LruCache<u16, Place>, index: &[Option<u16>], pid: u32) -> Option<(u16, Pool)>
+    requires slots { IsOrder order.now.entries }
+    requires indexed { IsIndexed order.now.entries index.now }
+    ensures { IsFound order.now.entries pid result }
+{
+    if let Some(slot) = index.get(pid as usize) {
+        let slot = (*slot)?;
+        let (_, pool) = (*order.peek(&slot)?)?;
+        return Some((slot, pool));
+    }
+    scan(order, pid)
+}
+
+/// The same, by going over all slots.
+fn scan(order: &LruCache<u16, Place>, pid: u32) -> Option<(u16, Pool)>
+    requires { IsOrder order.now.entries }
+    ensures { IsFound order.now.entries pid result }
+{
+    for (slot, place) in order.iter() {
+        if let Some((other, pool)) = place {
+            if *other == pid {
+                return Some((*slot, *pool));
+            }
+        }
+    }
+    None
+}
+
+/// Notes the slot of a PID, if it is one of the index.
+fn note(index: &mut Vec<Option<u16>>, pid: u32, slot: Option<u16>)
+    ensures { index.new.items ≡ slice_set index.old.items pid slot }
+{
+    let at = pid as usize;
+    if at < index.len() {
+        index[at] = slot;
+    }
+}
+
+/// A sum in which one part has changed. It takes constant time.
+fn changed(sum: u64, old: u64, new: u64) -> u64
+    requires there { old ≤ sum }
+    requires fits { sum + new < 2 ^ 64 }
+    ensures { result + old ≡ sum + new }
+{
+    sum - old + new
+}
+
+impl Table {
+    /// No pools. It reserves all that the table ever takes.
+    pub(crate) fn new(alloc: Global) -> Result<Table, AllocError>
+        ensures { IfOk result (λ t. t ≡ []) }
+    {
+        let slots = NonZeroUsize::new(SLOTS as usize).unwrap();
+        let mut order = LruCache::new(alloc, slots)?;
+        let mut spare = Vec::with_capacity(alloc, SLOTS as usize)?;
+        for slot in 0..SLOTS {
+            order.put(slot, None)?;
+            spare.push(slot)?;
+        }
+        let index = vec![in alloc; None; INDEXED]?;
+        Ok(Table {
+            order,
+            index,
+            spare,
+            under: 0,
+            held: 0,
+        })
+    }
+
+    /// How many pools there are.
+    pub(crate) fn len(&self) -> u32
+        ensures { result ≡ length self.now }
+    {
+        SLOTS as u32 - self.spare.len() as u32
+    }
+
+    /// The pool `pid`; `None` exactly where it is absent.
+    pub(crate) fn get(&self, pid: u32) -> Option<Pool>
+        ensures { result ≡ pool_at self.now pid }
+    {
+        let (_, pool) = found_at(&self.order, self.index.as_slice(), pid)?;
+        Some(pool)
+    }
+
+    /// The bytes that count against the limit.
+    pub(crate) fn under(&self) -> u64
+        ensures { result ≡ under_sum self.now }
+    {
+        self.under
+    }
+
+    /// The bytes that workers hold.
+    pub(crate) fn held(&self) -> u64
+        ensures { result ≡ held_sum self.now }
+    {
+        self.held
+    }
+
+    /// The pool that is to leave next; `None` exactly where no pool is free or compacted. It goes over
+    /// the slots from the last used back to the last free pool, or over all where no pool is free.
+    pub(crate) fn victim(&self) -> Option<u32>
+        ensures { result ≡ victim self.now }
+    {
+        let mut compacted = None;
+        for (_, place) in self.order.iter().rev() {
+            if let Some((pid, pool)) = place {
+                if pool.stage.is_free() {
+                    return Some(*pid);
+                }
+                compacted = compacted.or(pool.stage.is_compacted().then_some(*pid));
+            }
+        }
+        compacted
+    }
+
+    /// Gives the pool `pid` this content, and leaves it in its place.
+    pub(crate) fn put(&mut self, pid: u32, pool: Pool)
+        requires present { IsSome (pool_at self.old pid) }
+        requires under_fits { under_sum self.old + under_part pool < 2 ^ 64 }
+        requires held_fits { held_sum self.old + held_part pool < 2 ^ 64 }
+        ensures { self.new ≡ in_place pid pool self.old }
+    {
+        let (slot, old) = found_at(&self.order, self.index.as_slice(), pid).unwrap();
+        let under = changed(self.under, old.under_part(), pool.under_part());
+        let held = changed(self.held, old.held_part(), pool.held_part());
+        *self.order.peek_mut(&slot).unwrap() = Some((pid, pool));
+        self.under = under;
+        self.held = held;
+    }
+
+    /// Gives the pool `pid` this content, and puts it first.
+    pub(crate) fn put_first(&mut self, pid: u32, pool: Pool)
+        requires present { IsSome (pool_at self.old pid) }
+        requires under_fits { under_sum self.old + under_part pool < 2 ^ 64 }
+        requires held_fits { held_sum self.old + held_part pool < 2 ^ 64 }
+        ensures { self.new ≡ front pid pool self.old }
+    {
+        let (slot, old) = found_at(&self.order, self.index.as_slice(), pid).unwrap();
+        let under = changed(self.under, old.under_part(), pool.under_part());
+        let held = changed(self.held, old.held_part(), pool.held_part());
+        self.order.put(slot, Some((pid, pool))).unwrap();
+        self.under = under;
+        self.held = held;
+    }
+
+    /// Adds the pool `pid`, and puts it first.
+    pub(crate) fn add(&mut self, pid: u32, pool: Pool)
+        requires absent { pool_at self.old pid ≡ None }
+        requires room { length self.old < 4096 }
+        requires under_fits { under_sum self.old + under_part pool < 2 ^ 64 }
+        requires held_fits { held_sum self.old + held_part pool < 2 ^ 64 }
+        ensures { self.new ≡ (pid, pool) ∷ self.old }
+    {
+        let under = self.under + pool.under_part();
+        let held = self.held + pool.held_part();
+        let slot = self.spare.pop().unwrap();
+        self.order.put(slot, Some((pid, pool))).unwrap();
+        note(&mut self.index, pid, Some(slot));
+        self.under = under;
+        self.held = held;
+    }
+
+    /// Takes the pool `pid` out.
+    pub(crate) fn remove(&mut self, pid: u32)
+        requires { IsSome (pool_at self.old pid) }
+        ensures { self.new ≡ remove_entry (nat_eq pid) self.old }
+    {
+        let (slot, old) = found_at(&self.order, self.index.as_slice(), pid).unwrap();
+        let under = self.under - old.under_part();
+        let held = self.held - old.held_part();
+        self.spare.push(slot).unwrap();
+        self.order.put(slot, None).unwrap();
+        note(&mut self.index, pid, None);
+        self.under = under;
+        self.held = held;
+    }
+}
