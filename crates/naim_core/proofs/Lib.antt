@@ -1,3 +1,4 @@
+pub mod Fresh
 pub mod Maps
 pub mod Places
 pub mod Tables

@@ -19,6 +19,9 @@ number_itself i = nat_eq_equiv.refl i
 pub other_number : (i j : ℕ) → i ≢ j → nat_eq i j ≡ false
 other_number i j d = elim (eqb_tells i j) [ inl y ↦ absurd (d y.1) | inr n ↦ n.0 ]
 
+pub apart_number : (i j : ℕ) → nat_eq i j ≡ false → i ≢ j
+apart_number i j t = elim (eqb_tells i j) [ inl y ↦ cc | inr n ↦ n.1 ]
+
 one_key : (p : ℕ) (x y : ℕ) → nat_eq p x ≡ true → nat_eq p y ≡ nat_eq x y
 one_key p x y t = nat_eq_equiv.congr p x y t
 

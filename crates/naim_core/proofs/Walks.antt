@@ -1,6 +1,7 @@
 -- The pools met on a walk over the slots.
 use Rattle.std.proofs.Common.{◌≡◌, ℕ, Bool, true, false, cond, nat_eq, List, [], ◌∷◌, ◌++◌, reverse, find, filter_map, Option, Some, None, refl, sym, ap, subst, ◌∙◌, append_assoc}
 use Rattle.std.specs.List.{IsDistinct, AllByRecursion}
+use Rattle.std.specs.Bool.{then_some}
 use Rattle.std.specs.Cmp.{nat_eq_equiv}
 use Rattle.std.specs.Option.{option_or, option_map}
 use Rattle.std.specs.Map.{keys_of, lookup}
@@ -53,15 +54,15 @@ lookup_push p (e ∷ ps) qs h = (elim (nat_eq p e.0) as (λ b. nat_eq p e.0 ≡ 
 pub back_step : (self : List (ℕ × Pool)) (iter new : Order) (i : ℕ) (place : Place) (tail : List (ℕ × Pool)) → self ≡ pools_in iter ++ tail → iter ≡ new ++ (i, place) ∷ [] → self ≡ pools_in new ++ (pools_in ((i, place) ∷ []) ++ tail)
 back_step self iter new i place tail e f = e ∙ ap (λ l. pools_in l ++ tail) f ∙ ap (λ l. l ++ tail) (pools_push new i place) ∙ append_assoc (pools_in new) (pools_in ((i, place) ∷ [])) tail
 
-option_case : (o : Option (ℕ × Pool)) (b : Bool) (e : ℕ × Pool) → option_or (option_map (λ x. x.0) o) (cond b (Some e.0) None) ≡ option_map (λ x. x.0) (option_or o (cond b (Some e) None))
+option_case : (o : Option (ℕ × Pool)) (b : Bool) (e : ℕ × Pool) → option_or (option_map (λ x. x.0) o) (then_some b e.0) ≡ option_map (λ x. x.0) (option_or o (cond b (Some e) None))
 option_case None true e = refl
 option_case None false e = refl
 option_case (Some x) b e = refl
 
 -- the last compacted pool, with one more pool before the others
 pub compacted_more : (c : Option ℕ) (e : ℕ × Pool) (tail : List (ℕ × Pool)) → c ≡ option_map (λ x. x.0) (find (λ x. is_compacted x.1.stage) (reverse tail)) →
-    option_or c (cond (is_compacted e.1.stage) (Some e.0) None) ≡ option_map (λ x. x.0) (find (λ x. is_compacted x.1.stage) (reverse (e ∷ tail)))
-compacted_more c e tail h = ap (λ o. option_or o (cond (is_compacted e.1.stage) (Some e.0) None)) h
+    option_or c (then_some (is_compacted e.1.stage) e.0) ≡ option_map (λ x. x.0) (find (λ x. is_compacted x.1.stage) (reverse (e ∷ tail)))
+compacted_more c e tail h = ap (λ o. option_or o (then_some (is_compacted e.1.stage) e.0)) h
     ∙ option_case (find (λ x. is_compacted x.1.stage) (reverse tail)) (is_compacted e.1.stage) e ∙ ap (option_map (λ x. x.0)) (sym (last_more is_compacted e tail))
 
 -- no free pool, with one more before the others that is not free

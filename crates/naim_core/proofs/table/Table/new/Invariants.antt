@@ -1,10 +1,8 @@
-use Rattle.std.proofs.Common.{◌≡◌, ◌+◌, ◌<◌, ◌≤◌, ◌^◌, ◌∷◌, [], nat_eq, length, slice_set, None, IsSome, IfOk, ℕ, ◌-◌, ◌*◌}
-use Rattle.std.specs.Map.{remove_entry}
-use Rattle.naim_core.specs.Charges.{under_sum, held_sum, under_part, held_part}
-use Rattle.naim_core.specs.State.{pool_at, victim}
-use Rattle.naim_core.specs.Steps.{front, in_place}
-use Rattle.naim_core.specs.Table.{IsFound, IsIndexed, IsOrder}
+use Rattle.std.proofs.Common.{◌≡◌, ◌≤◌}
+use Rattle.std.specs.Vec.{vec_capacity}
+use Rattle.naim_core.proofs.Fresh.{empty_order, numbers}
 use Rattle.naim_core.proofs.table.Table.new.Given as goal
 
+-- the slots below this one are in the order and spare
 abbrev pub invariant-loop-slot : goal.invariant-loop-slot
-invariant-loop-slot l = ?
+invariant-loop-slot l = (l.order.cap ≡ 4096) × (l.order.entries ≡ empty_order l.slot) × (l.spare.items ≡ numbers l.slot) × (4096 ≤ vec_capacity l.spare)
