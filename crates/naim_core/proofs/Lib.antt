@@ -1,4 +1,5 @@
 pub mod Fresh
+pub mod Keeps
 pub mod Maps
 pub mod Places
 pub mod Tables
