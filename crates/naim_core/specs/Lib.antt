@@ -4,3 +4,4 @@ pub mod Sound
 pub mod State
 pub mod Steps
 pub mod Table
+pub mod View

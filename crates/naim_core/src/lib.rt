@@ -5,6 +5,7 @@
 //! nothing. Under every list of events the bytes that nobody holds stay within the limit.
 #![tactic(auto)]
 
+mod checks;
 mod event;
 mod pool;
 mod state;
@@ -12,4 +13,4 @@ mod table;
 
 pub use event::{Event, Failure, Form, Mode, Refusal};
 pub use pool::{Pool, PoolForm, PoolView, Stage};
-pub use state::Hand;
+pub use state::{CoreState, Hand};
