@@ -1,10 +1,10 @@
 -- The paging step: what each event makes of a state, or why it is refused.
-use Rattle.std.specs.Prelude.{◌≡◌, ℕ, Bool, true, false, nat_eq, List, [], ◌∷◌, ◌++◌, drop, Option, Some, None, slice_get, slice_set, Result, Ok, Err, MatchResult, is_some, if◌then◌else◌}
+use Rattle.std.specs.Prelude.{◌≡◌, ℕ, Bool, true, false, nat_eq, List, [], ◌∷◌, ◌++◌, length, drop, Option, Some, None, slice_get, slice_set, Result, Ok, Err, MatchResult, is_some, if◌then◌else◌}
 use Rattle.std.specs.Option.{option_map_or}
 use Rattle.std.specs.Map.{remove_entry, set_value}
 use Rattle.naim_core.specs.Charges.{under_sum}
 use Rattle.naim_core.specs.Rows
-use Rattle.naim_core.specs.State.{Core, pool_at, hand_at, holds, is_offloaded, moves_by_disk}
+use Rattle.naim_core.specs.State.{Core, pool_at, hand_at, holds, victim, is_offloaded, moves_by_disk}
 use Rattle.naim_core.specs.declared.event.Event.{Event}
 use Rattle.naim_core.specs.declared.event.Event.TheVariants as event
 use Rattle.naim_core.specs.declared.event.Failure.{Failure}
@@ -50,7 +50,7 @@ take_pin mode.Read p h = record h { read = Some p; moved = Some p }
 take_pin (mode.Write room) p h = record h { written = Some p; moved = Some p }
 
 abbrev pub insert_step : Core → ℕ → Form → ℕ → ℕ → Result Core Refusal
-insert_step s p f e c = then_state (permit (Rows.insert_row s.limit s.pools p f e c) (Rows.inserted f e c))
+insert_step s p f e c = then_state (permit (Rows.insert_row s.limit (under_sum s.pools) (is_some (pool_at s.pools p)) (length s.pools) f e c) (Rows.inserted f e c))
     (λ x. record s { pools = (p, x) ∷ s.pools })
 
 abbrev pub remove_step : Core → ℕ → Result Core Refusal
@@ -114,7 +114,7 @@ unpin_write_step s w p f e c = let h = hand_at s.hands w in on_pool s p (λ x.
 
 abbrev pub compact_begin_step : Core → ℕ → ℕ → ℕ → Result Core Refusal
 compact_begin_step s w p wanted = let h = hand_at s.hands w in on_pool s p (λ x.
-    then_state (permit (Rows.compact_begin_row s.limit s.pools x h p wanted) (record x { stage = stage.Compacting }))
+    then_state (permit (Rows.compact_begin_row s.limit (under_sum s.pools) (victim s.pools) x h p wanted) (record x { stage = stage.Compacting }))
     (λ y. record s { pools = in_place p y s.pools; hands = with_hand s w (record h { moved = Some p }) }))
 
 abbrev pub compact_end_step : Core → ℕ → ℕ → Result Core Refusal
@@ -124,7 +124,7 @@ compact_end_step s w p = let h = hand_at s.hands w in on_pool s p (λ x.
 
 abbrev pub offload_begin_step : Core → ℕ → ℕ → ℕ → Result Core Refusal
 offload_begin_step s w p wanted = let h = hand_at s.hands w in on_pool s p (λ x.
-    then_state (permit (Rows.offload_begin_row s.limit s.pools x h p wanted s.disk) (record x { stage = stage.Offloading }))
+    then_state (permit (Rows.offload_begin_row s.limit (under_sum s.pools) (victim s.pools) x h p wanted s.disk) (record x { stage = stage.Offloading }))
     (λ y. record s { pools = in_place p y s.pools; hands = with_hand s w (record h { moved = Some p }); disk = Some w }))
 
 abbrev pub offload_end_step : Core → ℕ → ℕ → Result Core Refusal

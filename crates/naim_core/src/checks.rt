@@ -2,6 +2,8 @@
 ghost use Rattle.std.specs.Prelude.{◌≡◌, ◌+◌, ◌<◌, ◌≤◌, ◌^◌, Ok};
 ghost use Rattle.naim_core.specs.Charges.{room_of};
 ghost use Rattle.naim_core.specs.Rows;
+ghost use Rattle.naim_core.specs.Rows.{free_in};
+ghost use Rattle.naim_core.specs.Sound.{IsFitStage};
 ghost use Rattle.naim_core.specs.State.{is_offloaded, readers_at};
 ghost use Rattle.naim_core.specs.Steps.{permit};
 
@@ -23,6 +25,18 @@ impl Mode {
         match self {
             Mode::Read => 0,
             Mode::Write { room } => room,
+        }
+    }
+}
+
+impl Form {
+    /// Free in the form.
+    fn free(self) -> Stage
+        ensures { result ≡ free_in self }
+    {
+        match self {
+            Form::Expanded => Stage::Free,
+            Form::Compacted => Stage::Compacted,
         }
     }
 }
@@ -97,5 +111,241 @@ pub(crate) fn pin_write(pool: Pool, hand: Hand, in_wave: bool, pid: u32, room: u
     Ok(Pool {
         stage: Stage::Written { room },
         ..pool
+    })
+}
+
+/// The begin of a reload, for a reader or a writer.
+pub(crate) fn reload_begin(
+    pool: Pool,
+    hand: Hand,
+    in_wave: bool,
+    pid: u32,
+    mode: Mode,
+    disk: Option<u32>,
+) -> Result<Pool, Refusal>
+    ensures { result ≡ permit (Rows.reload_begin_row pool hand in_wave pid mode disk) (record pool { stage = Stage.Reloading mode (is_offloaded pool.stage) }) }
+{
+    let (pin, writes) = match mode {
+        Mode::Read => (hand.read, false),
+        Mode::Write { .. } => (hand.written, true),
+    };
+    if hand.moved.is_some() || pin.is_some() {
+        return Err(Refusal::HandFull);
+    }
+    if writes && in_wave && hand.task != Some(pid) {
+        return Err(Refusal::NoTask);
+    }
+    let from_disk = match pool.stage {
+        Stage::Compacted => false,
+        Stage::Offloaded => true,
+        Stage::Free | Stage::Read { .. } | Stage::Written { .. } => return Err(Refusal::WrongForm),
+        Stage::Compacting | Stage::Offloading | Stage::Reloading { .. } => {
+            return Err(Refusal::Moving);
+        }
+    };
+    if from_disk && disk.is_some() {
+        return Err(Refusal::DiskOut);
+    }
+    if mode.room() > MAX_ROOM {
+        return Err(Refusal::BadSize);
+    }
+    Ok(Pool {
+        stage: Stage::Reloading { mode, from_disk },
+        ..pool
+    })
+}
+
+/// The end of a reload: pinned as it was meant.
+pub(crate) fn reload_end(pool: Pool, hand: Hand, pid: u32) -> Result<Pool, Refusal>
+    ensures { result ≡ permit (Rows.reload_end_row pool hand pid) (record pool { stage = Rows.reloaded pool.stage }) }
+{
+    if hand.moved != Some(pid) {
+        return Err(Refusal::NotHeld);
+    }
+    let Stage::Reloading { mode, .. } = pool.stage else {
+        return Err(Refusal::NotHeld);
+    };
+    let stage = match mode {
+        Mode::Read => Stage::Read { readers: 1 },
+        Mode::Write { room } => Stage::Written { room },
+    };
+    Ok(Pool { stage, ..pool })
+}
+
+/// One reader less; the last leaves the pool in the form.
+pub(crate) fn unpin_read(limit: u64, under: u64, pool: Pool, hand: Hand, pid: u32, form: Form) -> Result<Pool, Refusal>
+    requires fits { under ≤ limit }
+    requires read { IsFitStage pool.stage }
+    ensures { result ≡ permit (Rows.unpin_read_row limit under pool hand pid form) (record pool { stage = Rows.without_reader form pool.stage }) }
+{
+    if hand.read != Some(pid) {
+        return Err(Refusal::NotHeld);
+    }
+    let Stage::Read { readers } = pool.stage else {
+        return Err(Refusal::NotHeld);
+    };
+    if readers > 1 {
+        return Ok(Pool {
+            stage: Stage::Read {
+                readers: readers - 1,
+            },
+            ..pool
+        });
+    }
+    fit(limit, under, form, pool.e, pool.c)?;
+    Ok(Pool {
+        stage: form.free(),
+        ..pool
+    })
+}
+
+/// A new value of charge `e` and compact length `c`, free in the form.
+pub(crate) fn unpin_write(
+    limit: u64,
+    under: u64,
+    pool: Pool,
+    hand: Hand,
+    pid: u32,
+    form: Form,
+    e: u64,
+    c: u32,
+) -> Result<Pool, Refusal>
+    requires { under ≤ limit }
+    ensures { result ≡ permit (Rows.unpin_write_row limit under pool hand pid form e c) (Rows.inserted form e c) }
+{
+    if hand.written != Some(pid) {
+        return Err(Refusal::NotHeld);
+    }
+    let Stage::Written { room } = pool.stage else {
+        return Err(Refusal::NotHeld);
+    };
+    if e < u64::from(c) || e > MAX_CHARGE || room < e + u64::from(c) {
+        return Err(Refusal::BadSize);
+    }
+    fit(limit, under, form, e, c)?;
+    Ok(Pool {
+        stage: form.free(),
+        e,
+        c,
+    })
+}
+
+/// The begin of a compaction of the victim.
+pub(crate) fn compact_begin(
+    limit: u64,
+    under: u64,
+    victim: Option<u32>,
+    pool: Pool,
+    hand: Hand,
+    pid: u32,
+    wanted: u64,
+) -> Result<Pool, Refusal>
+    requires { under ≤ limit }
+    ensures { result ≡ permit (Rows.compact_begin_row limit under victim pool hand pid wanted) (record pool { stage = Stage.Compacting }) }
+{
+    if hand.moved.is_some() {
+        return Err(Refusal::HandFull);
+    }
+    if pool.stage.is_moving() {
+        return Err(Refusal::Moving);
+    }
+    if pool.stage.is_away() {
+        return Err(Refusal::WrongForm);
+    }
+    if wanted <= limit - under {
+        return Err(Refusal::Fits);
+    }
+    if victim != Some(pid) {
+        return Err(Refusal::NotVictim);
+    }
+    Ok(Pool {
+        stage: Stage::Compacting,
+        ..pool
+    })
+}
+
+/// The end of a compaction.
+pub(crate) fn compact_end(pool: Pool, hand: Hand, pid: u32) -> Result<Pool, Refusal>
+    ensures { result ≡ permit (Rows.compact_end_row pool hand pid) (record pool { stage = Stage.Compacted }) }
+{
+    if hand.moved != Some(pid) || !matches!(pool.stage, Stage::Compacting) {
+        return Err(Refusal::NotHeld);
+    }
+    Ok(Pool {
+        stage: Stage::Compacted,
+        ..pool
+    })
+}
+
+/// The begin of an offload of the victim.
+pub(crate) fn offload_begin(
+    limit: u64,
+    under: u64,
+    victim: Option<u32>,
+    pool: Pool,
+    hand: Hand,
+    pid: u32,
+    wanted: u64,
+    disk: Option<u32>,
+) -> Result<Pool, Refusal>
+    requires { under ≤ limit }
+    ensures { result ≡ permit (Rows.offload_begin_row limit under victim pool hand pid wanted disk) (record pool { stage = Stage.Offloading }) }
+{
+    if hand.moved.is_some() {
+        return Err(Refusal::HandFull);
+    }
+    if pool.stage.is_moving() {
+        return Err(Refusal::Moving);
+    }
+    if pool.stage.is_expanded() || pool.stage.is_offloaded() {
+        return Err(Refusal::WrongForm);
+    }
+    if disk.is_some() {
+        return Err(Refusal::DiskOut);
+    }
+    if wanted <= limit - under {
+        return Err(Refusal::Fits);
+    }
+    if victim != Some(pid) {
+        return Err(Refusal::NotVictim);
+    }
+    Ok(Pool {
+        stage: Stage::Offloading,
+        ..pool
+    })
+}
+
+/// The end of an offload.
+pub(crate) fn offload_end(pool: Pool, hand: Hand, pid: u32) -> Result<Pool, Refusal>
+    ensures { result ≡ permit (Rows.offload_end_row pool hand pid) (record pool { stage = Stage.Offloaded }) }
+{
+    if hand.moved != Some(pid) || !matches!(pool.stage, Stage::Offloading) {
+        return Err(Refusal::NotHeld);
+    }
+    Ok(Pool {
+        stage: Stage::Offloaded,
+        ..pool
+    })
+}
+
+/// A new pool, where none with its PID is there and `used` pools are.
+pub(crate) fn insert(limit: u64, under: u64, present: bool, used: u32, form: Form, e: u64, c: u32) -> Result<Pool, Refusal>
+    requires { under ≤ limit }
+    ensures { result ≡ permit (Rows.insert_row limit under present used form e c) (Rows.inserted form e c) }
+{
+    if present {
+        return Err(Refusal::Present);
+    }
+    if used >= 4096 {
+        return Err(Refusal::Full);
+    }
+    if e < u64::from(c) || e > MAX_CHARGE {
+        return Err(Refusal::BadSize);
+    }
+    fit(limit, under, form, e, c)?;
+    Ok(Pool {
+        stage: form.free(),
+        e,
+        c,
     })
 }

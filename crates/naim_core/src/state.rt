@@ -1,7 +1,8 @@
 //! The state and its events.
-ghost use Rattle.std.specs.Prelude.{◌≡◌, ◌<◌, ◌≤◌, ◌^◌, length, IfOk};
-ghost use Rattle.naim_core.specs.State.{start};
-ghost use Rattle.naim_core.specs.Steps.{Follows, pin_read_step};
+ghost use Rattle.std.specs.Prelude.{◌≡◌, ◌<◌, ◌≤◌, ◌^◌, length, slice_set, IfOk, IsSome};
+ghost use Rattle.naim_core.specs.Sound.{IsSound};
+ghost use Rattle.naim_core.specs.State.{start, pool_at, hand_at};
+ghost use Rattle.naim_core.specs.Steps.{front, in_place, Follows, pin_read_step};
 
 use crate::checks;
 use crate::event::{Event, Failure, Form, Mode, Refusal};
@@ -53,6 +54,32 @@ impl Model for CoreState {
 }
 
 impl CoreState {
+    /// Gives a pool that is there its new content and puts it first, and gives the worker its new hand.
+    fn change_first(&mut self, worker: u32, pid: u32, pool: Pool, hand: Hand, disk: Option<u32>)
+        requires worker { worker < length self.old.hands }
+        requires present { IsSome (pool_at self.old.pools pid) }
+        requires task { hand.task ≡ (hand_at self.old.hands worker).task }
+        requires sound { IsSound (record self.old { pools = front pid pool self.old.pools; hands = slice_set self.old.hands worker hand; disk = disk }) }
+        ensures { self.new ≡ record self.old { pools = front pid pool self.old.pools; hands = slice_set self.old.hands worker hand; disk = disk } }
+    {
+        self.pools.put_first(pid, pool);
+        self.hands[worker as usize] = hand;
+        self.disk = disk;
+    }
+
+    /// The same, where the pool keeps its place.
+    fn change_in_place(&mut self, worker: u32, pid: u32, pool: Pool, hand: Hand, disk: Option<u32>)
+        requires worker { worker < length self.old.hands }
+        requires present { IsSome (pool_at self.old.pools pid) }
+        requires task { hand.task ≡ (hand_at self.old.hands worker).task }
+        requires sound { IsSound (record self.old { pools = in_place pid pool self.old.pools; hands = slice_set self.old.hands worker hand; disk = disk }) }
+        ensures { self.new ≡ record self.old { pools = in_place pid pool self.old.pools; hands = slice_set self.old.hands worker hand; disk = disk } }
+    {
+        self.pools.put(pid, pool);
+        self.hands[worker as usize] = hand;
+        self.disk = disk;
+    }
+
     /// One more reader of the pool.
     fn pin_read(&mut self, worker: u32, pid: u32) -> Result<(), Refusal>
         requires { worker < length self.old.hands }
@@ -63,11 +90,11 @@ impl CoreState {
         };
         let hand = self.hands[worker as usize];
         let pool = checks::pin_read(pool, hand)?;
-        self.pools.put_first(pid, pool);
-        self.hands[worker as usize] = Hand {
+        let hand = Hand {
             read: Some(pid),
             ..hand
         };
+        self.change_first(worker, pid, pool, hand, self.disk);
         Ok(())
     }
 }
