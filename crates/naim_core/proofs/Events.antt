@@ -1,0 +1,287 @@
+-- Each event on a pool keeps the state sound.
+use Rattle.std.proofs.Common.{◌≡◌, ◌≢◌, ℕ, zero, suc, ◌+◌, ◌-◌, ◌*◌, ◌<◌, ◌≤◌, ◌^◌, Bool, true, false, not, cond, ◌==◌, nat_eq, nat_lt, nat_le, List, [], ◌∷◌, ◌++◌, length, get_or, reverse, find, Option, Some, None, IsSome, Ok, Err, Result, is_ok, refl, sym, ap, subst, arith, ◌∙◌, sum_by, ◌⊎◌, inl, inr, zero-add, true≢false}
+use Rattle.std.specs.Prelude.{count_by, is_some, ◌&&◌, ◌||◌, if◌then◌else◌}
+use Rattle.std.specs.List.{IsDistinct, slice_get, slice_set}
+use Rattle.std.specs.Map.{keys_of, values_of, lookup, remove_entry, set_value}
+use Rattle.std.proofs.lemmas.Bool.Decides.{nat_tests}
+use Rattle.std.proofs.lemmas.Option.{same_Some}
+use Rattle.naim_core.specs.Charges.{under_part, under_sum, room_of}
+use Rattle.naim_core.specs.Rows
+use Rattle.naim_core.specs.Sound.{hands_with, wanted_by, read_pins, write_pins, movers, IsFitStage, IsFitPool, KeepsPin, IsSound}
+use Rattle.naim_core.specs.State.{Core, pool_at, hand_at, holds, moves_by_disk, is_offloaded, victim, is_free, is_compacted, is_moving, is_away, is_pinned}
+use Rattle.naim_core.specs.Steps.{permit, front, in_place, take_pin}
+use Rattle.naim_core.specs.declared.event.Form.{Form}
+use Rattle.naim_core.specs.declared.event.Form.TheVariants as form
+use Rattle.naim_core.specs.declared.event.Mode.{Mode}
+use Rattle.naim_core.specs.declared.event.Mode.TheVariants as mode
+use Rattle.naim_core.specs.declared.event.Refusal.{Refusal}
+use Rattle.naim_core.specs.declared.event.Refusal.TheVariants.{NotHeld, HandFull, NoTask, Moving, WrongForm, InUse, DiskOut, Fits as Fits_refusal, NotVictim, BadSize, TooSmall, NeedsRoom}
+use Rattle.naim_core.specs.declared.pool.Pool.{Pool}
+use Rattle.naim_core.specs.declared.pool.Stage.{Stage}
+use Rattle.naim_core.specs.declared.pool.Stage.TheVariants as stage
+use Rattle.naim_core.specs.declared.state.Hand.{Hand}
+use Rattle.naim_core.proofs.Maps.{same_number, number_itself, other_number, sum_removed}
+use Rattle.naim_core.proofs.Keeps.{one, Swapped, swapped_front, swapped_in_place, Fits, Change, change_sound}
+
+-- a place that holds p
+pub holds_is : (o : Option ℕ) (p : ℕ) → holds o p ≡ true → o ≡ Some p
+holds_is None p t = cc
+holds_is (Some q) p t = ap (λ k. Some k) (same_number q p t)
+
+-- a place that keeps what it holds, takes p, or lets p go
+fits_same : (number : Stage → ℕ) (p : ℕ) (x y : Pool) (a : Option ℕ) → number y.stage ≡ number x.stage → Fits number p x y a a
+fits_same number p x y a e = record { here = ap (λ n. n + one (holds a p)) e; elsewhere = λ q d. refl }
+
+fits_take : (number : Stage → ℕ) (p : ℕ) (x y : Pool) → number y.stage ≡ number x.stage + 1 → Fits number p x y None (Some p)
+fits_take number p x y e = record {
+  here = (let i : one (p == p) ≡ 1 = ap one (number_itself p) in let g : number y.stage + 0 ≡ number x.stage + one (p == p) = omega arith in g);
+  elsewhere = λ q d. sym (other_number p q d);
+}
+
+fits_drop : (number : Stage → ℕ) (p : ℕ) (x y : Pool) → number y.stage + 1 ≡ number x.stage → Fits number p x y (Some p) None
+fits_drop number p x y e = record {
+  here = (let i : one (p == p) ≡ 1 = ap one (number_itself p) in let g : number y.stage + one (p == p) ≡ number x.stage + 0 = omega arith in g);
+  elsewhere = λ q d. other_number p q d;
+}
+
+-- the change of an event, its task left as it is
+change_at : (s : Core) (p w : ℕ) (x y : Pool) (h g : Hand) (pools : List (ℕ × Pool)) (disk : Option ℕ) → IsSound s → pool_at s.pools p ≡ Some x → slice_get s.hands w ≡ Some h →
+    Swapped p x y s.pools pools → IsFitPool s.limit y → under_sum s.pools + under_part y ≤ s.limit + under_part x →
+    Fits read_pins p x y h.read g.read → Fits write_pins p x y h.written g.written → Fits movers p x y h.moved g.moved →
+    KeepsPin pools g → ((m : Mode) (d : Bool) → y.stage ≡ stage.Reloading m d → movers x.stage ≡ 0) →
+    one (moves_by_disk y.stage) + one (is_some s.disk) ≡ one (moves_by_disk x.stage) + one (is_some disk) →
+    g.task ≡ h.task → (s.in_wave ≡ true → (q : ℕ) → g.written ≡ Some q → g.task ≡ Some q) →
+    IsSound (record s { pools = pools; hands = slice_set s.hands w g; disk = disk })
+change_at s p w x y h g pools disk sound at hand swap fits under reads writes moves pins fresh home task own =
+    change_sound s (record s { pools = pools; hands = slice_set s.hands w g; disk = disk }) p w x y h g sound (record {
+      pool = at; hand = hand; pools = swap; hands = refl; limit = refl; fits = fits; under = under; reads = reads; writes = writes; moves = moves;
+      pins = pins; fresh = fresh; disk = home; in_wave = refl; tasks = refl;
+      kept = λ t. ap (λ o. count_by (nat_eq t) s.unclaimed + count_by (nat_eq t) s.done + one (holds o t)) task;
+      own = own;
+    })
+
+-- what the other moves of the hand want stays
+pins_same : (s : Core) (p w : ℕ) (x y : Pool) (h g : Hand) (pools : List (ℕ × Pool)) → IsSound s → slice_get s.hands w ≡ Some h → Swapped p x y s.pools pools →
+    ((m : Mode) (d : Bool) → y.stage ≡ stage.Reloading m d → ⊥) → g.moved ≡ h.moved →
+    ((q : ℕ) → p ≢ q → h.read ≡ Some q → g.read ≡ Some q) → ((q : ℕ) → p ≢ q → h.written ≡ Some q → g.written ≡ Some q) → KeepsPin pools g
+pins_same s p w x y h g pools sound hand swap still moved read written q z d m is =
+    (elim (nat_eq p q) as (λ b. nat_eq p q ≡ b → (z.stage ≡ stage.Reloading mode.Read d → g.read ≡ Some q) × ((room : ℕ) → z.stage ≡ stage.Reloading (mode.Write room) d → g.written ≡ Some q)) [
+      | true ↦ λ t. let e = swap.found q in let e' = rw t at e in let zy : y ≡ z = same_Some y z (sym e' ∙ is) in
+          ((λ r. absurd (still mode.Read d (ap (λ v. v.stage) zy ∙ r))), (λ room r. absurd (still (mode.Write room) d (ap (λ v. v.stage) zy ∙ r))))
+      | false ↦ λ t. let e = swap.found q in let e' = rw t at e in
+          let away : p ≢ q = λ same. (let k : nat_eq p q ≡ true = ap (nat_eq p) (sym same) ∙ number_itself p in cc) in
+          let was = sound.pins_kept w h hand q z d (sym moved ∙ m) (sym e' ∙ is) in
+          ((λ r. read q away (was.0 r)), (λ room r. written q away (was.1 room r)))
+    ]) refl
+
+-- a hand that moves p alone, and p is not reloaded
+pins_move : (p : ℕ) (x y : Pool) (g : Hand) (old pools : List (ℕ × Pool)) → Swapped p x y old pools →
+    ((m : Mode) (d : Bool) → y.stage ≡ stage.Reloading m d → ⊥) → g.moved ≡ Some p → KeepsPin pools g
+pins_move p x y g old pools swap still moved q z d m is =
+    let same : p ≡ q = same_Some p q (sym moved ∙ m) in
+    let t : nat_eq p q ≡ true = ap (nat_eq p) (sym same) ∙ number_itself p in
+    let e = swap.found q in let e' = rw t at e in let zy : y ≡ z = same_Some y z (sym e' ∙ is) in
+    ((λ r. absurd (still mode.Read d (ap (λ v. v.stage) zy ∙ r))), (λ room r. absurd (still (mode.Write room) d (ap (λ v. v.stage) zy ∙ r))))
+
+-- the content of p itself
+same_here : (p q : ℕ) (x y z : Pool) (old pools : List (ℕ × Pool)) → Swapped p x y old pools → p ≡ q → pool_at pools q ≡ Some z → y ≡ z
+same_here p q x y z old pools swap same is =
+    let t : nat_eq p q ≡ true = ap (nat_eq p) (sym same) ∙ number_itself p in
+    let e = swap.found q in let e' = rw t at e in same_Some y z (sym e' ∙ is)
+
+-- a hand that moves nothing
+pins_none : (g : Hand) (pools : List (ℕ × Pool)) → g.moved ≡ None → KeepsPin pools g
+pins_none g pools none q z d m is = cc
+
+-- a pool that moves by the disk has it out
+disk_out : (s : Core) (p : ℕ) (x : Pool) → IsSound s → pool_at s.pools p ≡ Some x → moves_by_disk x.stage ≡ true → one (is_some s.disk) ≡ 1
+disk_out s p x sound at t =
+    let r = sum_removed (λ v. one (moves_by_disk v.stage)) p x s.pools at in let i : one (moves_by_disk x.stage) ≡ 1 = ap one t in
+    let k = sound.one_disk_move in some_one (is_some s.disk) (omega arith)
+    where
+      some_one : (b : Bool) → 1 ≤ one b → one b ≡ 1
+      some_one true h = refl
+      some_one false h = absurd (omega arith)
+
+
+false_ok : {A : Type 0} → false ≡ true → A
+false_ok h = absurd (true≢false (sym h))
+
+no_both : {A : Type 0} → false ≡ true → A
+no_both h = absurd (true≢false (sym h))
+
+-- one part of a row, where all of it is permitted
+permit_head : {X : Type 0} (b : Bool) (r : Refusal) (rest : Result X Refusal) → is_ok (if b then Err r else rest) ≡ true → (b ≡ false) × (is_ok rest ≡ true)
+permit_head true r rest h = cc
+permit_head false r rest h = (refl, h)
+
+-- what a permitted row gives is what was to be given
+pub permit_gives : {X : Type 0} (row : Rows.Row) (x y : X) → permit row x ≡ Ok y → x ≡ y
+permit_gives [] x y h = cc
+permit_gives ((true, r) ∷ row) x y h = cc
+permit_gives ((false, r) ∷ row) x y h = permit_gives row x y h
+
+pub permit_ok : {X : Type 0} (row : Rows.Row) (x y : X) → permit row x ≡ Ok y → is_ok (permit row x) ≡ true
+permit_ok row x y h = ap is_ok h
+
+-- the same bodies at another stage
+fit_at : (limit : ℕ) (st new : Stage) (e c : ℕ) → IsFitPool limit (record { stage = st; e = e; c = c }) → IsFitStage new → IsFitPool limit (record { stage = new; e = e; c = c })
+fit_at limit st new e c f g = record { shorter = f.shorter; within = f.within; charge = f.charge; stage_fits = g }
+
+abbrev pub at_stage : Stage → ℕ → ℕ → Pool
+at_stage st e c = record { stage = st; e = e; c = c }
+
+abbrev pub hand_of : Option ℕ → Option ℕ → Option ℕ → Option ℕ → Hand
+hand_of t wr r m = record { task = t; written = wr; read = r; moved = m }
+
+not_above : (n k : ℕ) → nat_lt k n ≡ false → n ≤ k
+not_above n k h = grind (arith, nat_tests)
+
+pub pin_read_sound : (s : Core) (p w : ℕ) (st : Stage) (e c : ℕ) (t wr r m : Option ℕ) → IsSound s → pool_at s.pools p ≡ Some (at_stage st e c) → slice_get s.hands w ≡ Some (hand_of t wr r m) →
+    is_ok (permit (Rows.pin_read_row (at_stage st e c) (hand_of t wr r m)) (at_stage (Rows.with_reader st) e c)) ≡ true →
+    IsSound (record s { pools = front p (at_stage (Rows.with_reader st) e c) s.pools; hands = slice_set s.hands w (hand_of t wr (Some p) m) })
+pin_read_sound s p w st e c t wr (Some k) m sound at hand ok = cc
+pin_read_sound s p w stage.Free e c t wr None m sound at hand ok =
+    let x = at_stage stage.Free e c in let y = at_stage (stage.Read 1) e c in let h = hand_of t wr None m in let g = hand_of t wr (Some p) m in
+    let swap = swapped_front p x y s.pools sound.one_pool at in
+    change_at s p w x y h g (front p y s.pools) s.disk sound at hand swap
+      (fit_at s.limit stage.Free (stage.Read 1) e c (sound.forms_fit p x at) (omega arith)) (let u = sound.under_fits in omega arith)
+      (fits_take read_pins p x y refl) (fits_same write_pins p x y wr refl) (fits_same movers p x y m refl)
+      (pins_same s p w x y h g (front p y s.pools) sound hand swap (λ m d e. cc) refl (λ q d e. cc) (λ q d e. e)) (λ m d e. cc) refl refl (λ i. sound.own_task i w h hand)
+pin_read_sound s p w (stage.Read n) e c t wr None m sound at hand ok =
+    let x = at_stage (stage.Read n) e c in let y = at_stage (stage.Read (n + 1)) e c in let h = hand_of t wr None m in let g = hand_of t wr (Some p) m in
+    let swap = swapped_front p x y s.pools sound.one_pool at in
+    change_at s p w x y h g (front p y s.pools) s.disk sound at hand swap
+      (fit_at s.limit (stage.Read n) (stage.Read (n + 1)) e c (sound.forms_fit p x at) (omega arith)) (let u = sound.under_fits in omega arith)
+      (fits_take read_pins p x y refl) (fits_same write_pins p x y wr refl) (fits_same movers p x y m refl)
+      (pins_same s p w x y h g (front p y s.pools) sound hand swap (λ m d e. cc) refl (λ q d e. cc) (λ q d e. e)) (λ m d e. cc) refl refl (λ i. sound.own_task i w h hand)
+pin_read_sound s p w _ e c t wr None m sound at hand ok = cc
+
+-- a worker that may write p in a wave has it as its task
+own_task_of : (b : Bool) (t : Option ℕ) (p : ℕ) → (b && not (holds t p)) ≡ false → b ≡ true → (q : ℕ) → Some p ≡ Some q → t ≡ Some q
+own_task_of true t p h i q e = holds_is t p (not_not (holds t p) h) ∙ e
+    where
+      not_not : (b : Bool) → not b ≡ false → b ≡ true
+      not_not true h = refl
+      not_not false h = cc
+own_task_of false t p h i q e = cc
+
+pub pin_write_sound : (s : Core) (p w room : ℕ) (st : Stage) (e c : ℕ) (t wr r m : Option ℕ) → IsSound s → pool_at s.pools p ≡ Some (at_stage st e c) → slice_get s.hands w ≡ Some (hand_of t wr r m) →
+    is_ok (permit (Rows.pin_write_row (at_stage st e c) (hand_of t wr r m) s.in_wave p room) (at_stage (stage.Written room) e c)) ≡ true →
+    IsSound (record s { pools = front p (at_stage (stage.Written room) e c) s.pools; hands = slice_set s.hands w (hand_of t (Some p) r m) })
+pin_write_sound s p w room st e c t (Some k) r m sound at hand ok = cc
+pin_write_sound s p w room stage.Free e c t None r m sound at hand ok =
+    let x = at_stage stage.Free e c in let y = at_stage (stage.Written room) e c in let h = hand_of t None r m in let g = hand_of t (Some p) r m in
+    let task = permit_head (s.in_wave && not (holds t p)) NoTask _ ok in let size = permit_head (nat_lt (2 ^ 41) room) BadSize _ task.1 in
+    let swap = swapped_front p x y s.pools sound.one_pool at in
+    change_at s p w x y h g (front p y s.pools) s.disk sound at hand swap
+      (fit_at s.limit stage.Free (stage.Written room) e c (sound.forms_fit p x at) (not_above room (2 ^ 41) size.0)) (let u = sound.under_fits in omega arith)
+      (fits_same read_pins p x y r refl) (fits_take write_pins p x y refl) (fits_same movers p x y m refl)
+      (pins_same s p w x y h g (front p y s.pools) sound hand swap (λ m d e. cc) refl (λ q d e. e) (λ q d e. cc)) (λ m d e. cc) refl refl (own_task_of s.in_wave t p task.0)
+pin_write_sound s p w room _ e c t None r m sound at hand ok = let task = permit_head (s.in_wave && not (holds t p)) NoTask _ ok in false_ok task.1
+
+-- a reload for reading
+reload_read : (s : Core) (p w : ℕ) (st : Stage) (d : Bool) (e c : ℕ) (t wr : Option ℕ) (disk : Option ℕ) → IsSound s → pool_at s.pools p ≡ Some (at_stage st e c) → slice_get s.hands w ≡ Some (hand_of t wr None None) →
+    read_pins st ≡ 0 → write_pins st ≡ 0 → movers st ≡ 0 → one d + one (is_some s.disk) ≡ one (moves_by_disk st) + one (is_some disk) →
+    IsSound (record s { pools = in_place p (at_stage (stage.Reloading mode.Read d) e c) s.pools; hands = slice_set s.hands w (hand_of t wr (Some p) (Some p)); disk = disk })
+reload_read s p w st d e c t wr disk sound at hand r0 w0 m0 home =
+    let x = at_stage st e c in let y = at_stage (stage.Reloading mode.Read d) e c in let h = hand_of t wr None None in let g = hand_of t wr (Some p) (Some p) in
+    let swap = swapped_in_place p x y s.pools sound.one_pool at in
+    change_at s p w x y h g (in_place p y s.pools) disk sound at hand swap
+      (fit_at s.limit st (stage.Reloading mode.Read d) e c (sound.forms_fit p x at) (omega arith)) (let u = sound.under_fits in omega arith)
+      (fits_take read_pins p x y (sym (ap (λ n. n + 1) r0))) (fits_same write_pins p x y wr (sym w0)) (fits_take movers p x y (sym (ap (λ n. n + 1) m0)))
+      (λ q z b moved is. ((λ r. moved), (λ room r. let zy = same_here p q x y z s.pools (in_place p y s.pools) swap (same_Some p q moved) is in let k : stage.Reloading mode.Read d ≡ stage.Reloading (mode.Write room) b = ap (λ v. v.stage) zy ∙ r in absurd (two_modes d b room k))))
+      (λ m b e. m0) home refl (λ i. sound.own_task i w h hand)
+    where
+      two_modes : (d b : Bool) (room : ℕ) → stage.Reloading mode.Read d ≡ stage.Reloading (mode.Write room) b → ⊥
+      two_modes d b room k = let m : mode.Read ≡ mode.Write room = cc in cc
+
+reload_write : (s : Core) (p w room : ℕ) (st : Stage) (d : Bool) (e c : ℕ) (t r : Option ℕ) (disk : Option ℕ) → IsSound s → pool_at s.pools p ≡ Some (at_stage st e c) → slice_get s.hands w ≡ Some (hand_of t None r None) →
+    read_pins st ≡ 0 → write_pins st ≡ 0 → movers st ≡ 0 → one d + one (is_some s.disk) ≡ one (moves_by_disk st) + one (is_some disk) → room ≤ 2 ^ 41 → (s.in_wave && not (holds t p)) ≡ false →
+    IsSound (record s { pools = in_place p (at_stage (stage.Reloading (mode.Write room) d) e c) s.pools; hands = slice_set s.hands w (hand_of t (Some p) r (Some p)); disk = disk })
+reload_write s p w room st d e c t r disk sound at hand r0 w0 m0 home fits task =
+    let x = at_stage st e c in let y = at_stage (stage.Reloading (mode.Write room) d) e c in let h = hand_of t None r None in let g = hand_of t (Some p) r (Some p) in
+    let swap = swapped_in_place p x y s.pools sound.one_pool at in
+    change_at s p w x y h g (in_place p y s.pools) disk sound at hand swap
+      (fit_at s.limit st (stage.Reloading (mode.Write room) d) e c (sound.forms_fit p x at) fits) (let u = sound.under_fits in omega arith)
+      (fits_same read_pins p x y r (sym r0)) (fits_take write_pins p x y (sym (ap (λ n. n + 1) w0))) (fits_take movers p x y (sym (ap (λ n. n + 1) m0)))
+      (λ q z b moved is. ((λ k. let zy = same_here p q x y z s.pools (in_place p y s.pools) swap (same_Some p q moved) is in let l : stage.Reloading (mode.Write room) d ≡ stage.Reloading mode.Read b = ap (λ v. v.stage) zy ∙ k in absurd (two_modes d b room l)), (λ n k. moved)))
+      (λ m b e. m0) home refl (own_task_of s.in_wave t p task)
+    where
+      two_modes : (d b : Bool) (room : ℕ) → stage.Reloading (mode.Write room) d ≡ stage.Reloading mode.Read b → ⊥
+      two_modes d b room k = let m : mode.Write room ≡ mode.Read = cc in cc
+
+pub reload_begin_sound : (s : Core) (p w : ℕ) (m : Mode) (st : Stage) (e c : ℕ) (t wr r mv : Option ℕ) → IsSound s → pool_at s.pools p ≡ Some (at_stage st e c) → slice_get s.hands w ≡ Some (hand_of t wr r mv) →
+    is_ok (permit (Rows.reload_begin_row (at_stage st e c) (hand_of t wr r mv) s.in_wave p m s.disk) (at_stage (stage.Reloading m (is_offloaded st)) e c)) ≡ true →
+    IsSound (record s { pools = in_place p (at_stage (stage.Reloading m (is_offloaded st)) e c) s.pools; hands = slice_set s.hands w (take_pin m p (hand_of t wr r mv)); disk = if is_offloaded st then Some w else s.disk })
+reload_begin_sound s p w m st e c t wr r (Some k) sound at hand ok = cc
+reload_begin_sound s p w mode.Read st e c t wr (Some k) None sound at hand ok = cc
+reload_begin_sound s p w (mode.Write room) st e c t (Some k) r None sound at hand ok = cc
+reload_begin_sound s p w mode.Read stage.Compacted e c t wr None None sound at hand ok = reload_read s p w stage.Compacted false e c t wr s.disk sound at hand refl refl refl refl
+reload_begin_sound s p w mode.Read stage.Offloaded e c t wr None None sound at hand ok =
+    let out = permit_head (is_some s.disk) DiskOut _ ok in reload_read s p w stage.Offloaded true e c t wr (Some w) sound at hand refl refl refl (ap (λ b. 1 + one b) out.0)
+reload_begin_sound s p w mode.Read _ e c t wr None None sound at hand ok = cc
+reload_begin_sound s p w (mode.Write room) stage.Compacted e c t None r None sound at hand ok =
+    let task = permit_head (s.in_wave && not (holds t p)) NoTask _ ok in let size = permit_head (nat_lt (2 ^ 41) room) BadSize _ task.1 in
+    reload_write s p w room stage.Compacted false e c t r s.disk sound at hand refl refl refl refl (not_above room (2 ^ 41) size.0) task.0
+reload_begin_sound s p w (mode.Write room) stage.Offloaded e c t None r None sound at hand ok =
+    let task = permit_head (s.in_wave && not (holds t p)) NoTask _ ok in let out = permit_head (is_some s.disk) DiskOut _ task.1 in let size = permit_head (nat_lt (2 ^ 41) room) BadSize _ out.1 in
+    reload_write s p w room stage.Offloaded true e c t r (Some w) sound at hand refl refl refl (ap (λ b. 1 + one b) out.0) (not_above room (2 ^ 41) size.0) task.0
+reload_begin_sound s p w (mode.Write room) _ e c t None r None sound at hand ok = let task = permit_head (s.in_wave && not (holds t p)) NoTask _ ok in false_ok task.1
+
+-- the end of a move: p stands at a stage where nobody moves it, and the disk comes home if it was out for it
+ended : (s : Core) (p w : ℕ) (st new : Stage) (e c : ℕ) (t wr r mv : Option ℕ) (pools : List (ℕ × Pool)) (disk : Option ℕ) → IsSound s → pool_at s.pools p ≡ Some (at_stage st e c) → slice_get s.hands w ≡ Some (hand_of t wr r mv) → mv ≡ Some p →
+    Swapped p (at_stage st e c) (at_stage new e c) s.pools pools → IsFitStage new → under_part (at_stage new e c) ≡ under_part (at_stage st e c) →
+    read_pins new ≡ read_pins st → write_pins new ≡ write_pins st → movers st ≡ 1 → movers new ≡ 0 → moves_by_disk new ≡ false → one (is_some s.disk) ≡ one (moves_by_disk st) + one (is_some disk) →
+    IsSound (record s { pools = pools; hands = slice_set s.hands w (hand_of t wr r None); disk = disk })
+ended s p w st new e c t wr r mv pools disk sound at hand moved swap fits under reads writes m1 m0 off home =
+    let x = at_stage st e c in let y = at_stage new e c in let h = hand_of t wr r (Some p) in let g = hand_of t wr r None in
+    let hand' : slice_get s.hands w ≡ Some h = hand ∙ ap (λ o. Some (hand_of t wr r o)) moved in
+    change_at s p w x y h g pools disk sound at hand' swap
+      (fit_at s.limit st new e c (sound.forms_fit p x at) fits) (let u = sound.under_fits in omega arith)
+      (fits_same read_pins p x y r reads) (fits_same write_pins p x y wr writes) (fits_drop movers p x y (ap (λ n. n + 1) m0 ∙ sym m1))
+      (pins_none g pools refl) (λ m b e. absurd (no_mover new m b m0 e)) (let o : one (moves_by_disk new) ≡ 0 = ap one off in omega arith) refl (λ i. sound.own_task i w h hand')
+    where
+      no_mover : (new : Stage) (m : Mode) (b : Bool) → movers new ≡ 0 → new ≡ stage.Reloading m b → ⊥
+      no_mover new m b z e = let k : movers new ≡ 1 = ap movers e in (omega arith)
+
+-- both parts of a test that holds
+both_of : (a b : Bool) → not (a && b) ≡ false → (a ≡ true) × (b ≡ true)
+both_of true true h = (refl, refl)
+both_of true false h = cc
+both_of false b h = cc
+
+home_after : (s : Core) (p : ℕ) (x : Pool) (b : Bool) → IsSound s → pool_at s.pools p ≡ Some x → moves_by_disk x.stage ≡ b → one (is_some s.disk) ≡ one b + one (is_some (if b then None else s.disk))
+home_after s p x true sound at t = disk_out s p x sound at t
+home_after s p x false sound at t = sym (zero-add (one (is_some s.disk)))
+
+pub reload_end_sound : (s : Core) (p w : ℕ) (st : Stage) (e c : ℕ) (t wr r mv : Option ℕ) → IsSound s → pool_at s.pools p ≡ Some (at_stage st e c) → slice_get s.hands w ≡ Some (hand_of t wr r mv) →
+    is_ok (permit (Rows.reload_end_row (at_stage st e c) (hand_of t wr r mv) p) (at_stage (Rows.reloaded st) e c)) ≡ true →
+    IsSound (record s { pools = front p (at_stage (Rows.reloaded st) e c) s.pools; hands = slice_set s.hands w (hand_of t wr r None); disk = if moves_by_disk st then None else s.disk })
+reload_end_sound s p w (stage.Reloading mode.Read d) e c t wr r mv sound at hand ok =
+    let part = permit_head (not (holds mv p && true)) NotHeld _ ok in let both = both_of (holds mv p) true part.0 in
+    ended s p w (stage.Reloading mode.Read d) (stage.Read 1) e c t wr r mv _ _ sound at hand (holds_is mv p both.0)
+      (swapped_front p (at_stage (stage.Reloading mode.Read d) e c) (at_stage (stage.Read 1) e c) s.pools sound.one_pool at) (omega arith) refl refl refl refl refl refl (home_after s p (at_stage (stage.Reloading mode.Read d) e c) d sound at refl)
+reload_end_sound s p w (stage.Reloading (mode.Write room) d) e c t wr r mv sound at hand ok =
+    let part = permit_head (not (holds mv p && true)) NotHeld _ ok in let both = both_of (holds mv p) true part.0 in
+    ended s p w (stage.Reloading (mode.Write room) d) (stage.Written room) e c t wr r mv _ _ sound at hand (holds_is mv p both.0)
+      (swapped_front p (at_stage (stage.Reloading (mode.Write room) d) e c) (at_stage (stage.Written room) e c) s.pools sound.one_pool at) (sound.forms_fit p (at_stage (stage.Reloading (mode.Write room) d) e c) at).stage_fits refl refl refl refl refl refl (home_after s p (at_stage (stage.Reloading (mode.Write room) d) e c) d sound at refl)
+reload_end_sound s p w _ e c t wr r mv sound at hand ok = let part = permit_head (not (holds mv p && false)) NotHeld _ ok in let both = both_of (holds mv p) false part.0 in no_both both.1
+
+pub compact_end_sound : (s : Core) (p w : ℕ) (st : Stage) (e c : ℕ) (t wr r mv : Option ℕ) → IsSound s → pool_at s.pools p ≡ Some (at_stage st e c) → slice_get s.hands w ≡ Some (hand_of t wr r mv) →
+    is_ok (permit (Rows.compact_end_row (at_stage st e c) (hand_of t wr r mv) p) (at_stage stage.Compacted e c)) ≡ true →
+    IsSound (record s { pools = in_place p (at_stage stage.Compacted e c) s.pools; hands = slice_set s.hands w (hand_of t wr r None); disk = s.disk })
+compact_end_sound s p w stage.Compacting e c t wr r mv sound at hand ok =
+    let part = permit_head (not (holds mv p && true)) NotHeld _ ok in let both = both_of (holds mv p) true part.0 in
+    ended s p w stage.Compacting stage.Compacted e c t wr r mv _ _ sound at hand (holds_is mv p both.0)
+      (swapped_in_place p (at_stage stage.Compacting e c) (at_stage stage.Compacted e c) s.pools sound.one_pool at) tt refl refl refl refl refl refl (sym (zero-add (one (is_some s.disk))))
+compact_end_sound s p w _ e c t wr r mv sound at hand ok = let part = permit_head (not (holds mv p && false)) NotHeld _ ok in let both = both_of (holds mv p) false part.0 in no_both both.1
+
+pub offload_end_sound : (s : Core) (p w : ℕ) (st : Stage) (e c : ℕ) (t wr r mv : Option ℕ) → IsSound s → pool_at s.pools p ≡ Some (at_stage st e c) → slice_get s.hands w ≡ Some (hand_of t wr r mv) →
+    is_ok (permit (Rows.offload_end_row (at_stage st e c) (hand_of t wr r mv) p) (at_stage stage.Offloaded e c)) ≡ true →
+    IsSound (record s { pools = in_place p (at_stage stage.Offloaded e c) s.pools; hands = slice_set s.hands w (hand_of t wr r None); disk = None })
+offload_end_sound s p w stage.Offloading e c t wr r mv sound at hand ok =
+    let part = permit_head (not (holds mv p && true)) NotHeld _ ok in let both = both_of (holds mv p) true part.0 in
+    ended s p w stage.Offloading stage.Offloaded e c t wr r mv _ _ sound at hand (holds_is mv p both.0)
+      (swapped_in_place p (at_stage stage.Offloading e c) (at_stage stage.Offloaded e c) s.pools sound.one_pool at) tt refl refl refl refl refl refl (disk_out s p (at_stage stage.Offloading e c) sound at refl)
+offload_end_sound s p w _ e c t wr r mv sound at hand ok = let part = permit_head (not (holds mv p && false)) NotHeld _ ok in let both = both_of (holds mv p) false part.0 in no_both both.1
