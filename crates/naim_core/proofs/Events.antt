@@ -20,7 +20,7 @@ use Rattle.naim_core.specs.declared.pool.Pool.{Pool}
 use Rattle.naim_core.specs.declared.pool.Stage.{Stage}
 use Rattle.naim_core.specs.declared.pool.Stage.TheVariants as stage
 use Rattle.naim_core.specs.declared.state.Hand.{Hand}
-use Rattle.naim_core.proofs.Maps.{same_number, number_itself, other_number, sum_removed}
+use Rattle.naim_core.proofs.Maps.{same_number, number_itself, other_number, sum_removed, apart_number}
 use Rattle.naim_core.proofs.Keeps.{one, Swapped, swapped_front, swapped_in_place, Fits, Change, change_sound}
 
 -- a place that holds p
@@ -285,3 +285,64 @@ offload_end_sound s p w stage.Offloading e c t wr r mv sound at hand ok =
     ended s p w stage.Offloading stage.Offloaded e c t wr r mv _ _ sound at hand (holds_is mv p both.0)
       (swapped_in_place p (at_stage stage.Offloading e c) (at_stage stage.Offloaded e c) s.pools sound.one_pool at) tt refl refl refl refl refl refl (disk_out s p (at_stage stage.Offloading e c) sound at refl)
 offload_end_sound s p w _ e c t wr r mv sound at hand ok = let part = permit_head (not (holds mv p && false)) NotHeld _ ok in let both = both_of (holds mv p) false part.0 in no_both both.1
+
+-- the fit of a form
+fit_of : (limit under : ℕ) (f : Form) (e c : ℕ) → is_ok (permit (Rows.fit_row limit under f e c) tt) ≡ true → under + Rows.bytes_of f e c ≤ limit
+fit_of limit under f e c ok =
+    let small = permit_head (Rows.is_compact_form f && nat_lt limit c) (TooSmall c) _ ok in
+    let room = permit_head (nat_lt limit (under + Rows.bytes_of f e c)) (NeedsRoom (Rows.bytes_of f e c)) _ small.1 in not_above _ limit room.0
+
+permit_any : {X Y : Type 0} (row : Rows.Row) (x : X) (y : Y) → is_ok (permit row x) ≡ true → is_ok (permit row y) ≡ true
+permit_any [] x y h = refl
+permit_any ((true, r) ∷ row) x y h = cc
+permit_any ((false, r) ∷ row) x y h = permit_any row x y h
+
+fit_stage : (f : Form) → IsFitStage (Rows.free_in f)
+fit_stage form.Expanded = tt
+fit_stage form.Compacted = tt
+
+free_under : (f : Form) (e c : ℕ) → under_part (at_stage (Rows.free_in f) e c) ≡ Rows.bytes_of f e c
+free_under form.Expanded e c = refl
+free_under form.Compacted e c = refl
+
+free_reads : (number : Stage → ℕ) → number stage.Free ≡ 0 → number stage.Compacted ≡ 0 → (f : Form) → number (Rows.free_in f) ≡ 0
+free_reads number a b form.Expanded = a
+free_reads number a b form.Compacted = b
+
+free_still : (f : Form) (m : Mode) (d : Bool) {A : Type 0} → Rows.free_in f ≡ stage.Reloading m d → A
+free_still form.Expanded m d e = absurd (let k : stage.Free ≡ stage.Reloading m d = e in (let z : 0 ≡ 1 = ap movers k in omega arith))
+free_still form.Compacted m d e = absurd (let k : stage.Compacted ≡ stage.Reloading m d = e in (let z : 0 ≡ 1 = ap movers k in omega arith))
+
+free_home : (f : Form) → moves_by_disk (Rows.free_in f) ≡ false
+free_home form.Expanded = refl
+free_home form.Compacted = refl
+
+-- a reader lets go
+reader_leaves : (s : Core) (p w n : ℕ) (new : Stage) (e c : ℕ) (t wr r m : Option ℕ) → IsSound s → pool_at s.pools p ≡ Some (at_stage (stage.Read n) e c) → slice_get s.hands w ≡ Some (hand_of t wr r m) → r ≡ Some p →
+    read_pins new + 1 ≡ n → write_pins new ≡ 0 → movers new ≡ 0 → moves_by_disk new ≡ false → IsFitStage new → under_sum s.pools + under_part (at_stage new e c) ≤ s.limit → ((m : Mode) (d : Bool) → new ≡ stage.Reloading m d → ⊥) →
+    IsSound (record s { pools = front p (at_stage new e c) s.pools; hands = slice_set s.hands w (hand_of t wr None m); disk = s.disk })
+reader_leaves s p w n new e c t wr r m sound at hand held reads writes moves off fits under still =
+    let x = at_stage (stage.Read n) e c in let y = at_stage new e c in let h = hand_of t wr (Some p) m in let g = hand_of t wr None m in
+    let swap = swapped_front p x y s.pools sound.one_pool at in
+    let hand' : slice_get s.hands w ≡ Some h = hand ∙ ap (λ o. Some (hand_of t wr o m)) held in
+    change_at s p w x y h g (front p y s.pools) s.disk sound at hand' swap
+      (fit_at s.limit (stage.Read n) new e c (sound.forms_fit p x at) fits) (omega arith)
+      (fits_drop read_pins p x y reads) (fits_same write_pins p x y wr writes) (fits_same movers p x y m moves)
+      (pins_same s p w x y h g (front p y s.pools) sound hand' swap still refl (λ q d k. absurd (d (same_Some p q k))) (λ q d k. k)) (λ m d k. absurd (still m d k))
+      (ap (λ b. one b + one (is_some s.disk)) off) refl (λ i. sound.own_task i w h hand')
+
+pub unpin_read_sound : (s : Core) (p w : ℕ) (f : Form) (st : Stage) (e c : ℕ) (t wr r m : Option ℕ) → IsSound s → pool_at s.pools p ≡ Some (at_stage st e c) → slice_get s.hands w ≡ Some (hand_of t wr r m) →
+    is_ok (permit (Rows.unpin_read_row s.limit (under_sum s.pools) (at_stage st e c) (hand_of t wr r m) p f) (at_stage (Rows.without_reader f st) e c)) ≡ true →
+    IsSound (record s { pools = front p (at_stage (Rows.without_reader f st) e c) s.pools; hands = slice_set s.hands w (hand_of t wr None m); disk = s.disk })
+unpin_read_sound s p w f (stage.Read n) e c t wr r m sound at hand ok =
+    let part = permit_head (not (holds r p && true)) NotHeld _ ok in let both = both_of (holds r p) true part.0 in
+    let positive : 0 < n = (sound.forms_fit p (at_stage (stage.Read n) e c) at).stage_fits in
+    (elim (n == 1) as (λ b. (n == 1) ≡ b → IsSound (record s { pools = front p (at_stage (if b then Rows.free_in f else stage.Read (n - 1)) e c) s.pools; hands = slice_set s.hands w (hand_of t wr None m); disk = s.disk })) [
+      | true ↦ λ one_left. let k = rw one_left at part.1 in
+          reader_leaves s p w n (Rows.free_in f) e c t wr r m sound at hand (holds_is r p both.0)
+            (let z = free_reads read_pins refl refl f in let o = same_number n 1 one_left in omega arith) (free_reads write_pins refl refl f) (free_reads movers refl refl f) (free_home f) (fit_stage f)
+            (let a = free_under f e c in let b = fit_of s.limit (under_sum s.pools) f e c (permit_any (Rows.fit_row s.limit (under_sum s.pools) f e c) (at_stage (Rows.free_in f) e c) tt k) in omega arith) (λ m d z. free_still f m d z)
+      | false ↦ λ more. let ne : n ≢ 1 = apart_number n 1 more in
+          reader_leaves s p w n (stage.Read (n - 1)) e c t wr r m sound at hand (holds_is r p both.0) (omega arith) refl refl refl (omega arith) (let u = sound.under_fits in omega arith) (λ m d z. let k : 0 ≡ 1 = ap movers z in omega arith)
+    ]) refl
+unpin_read_sound s p w f _ e c t wr r m sound at hand ok = let part = permit_head (not (holds r p && false)) NotHeld _ ok in let both = both_of (holds r p) false part.0 in no_both both.1
