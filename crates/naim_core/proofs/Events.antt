@@ -1,10 +1,14 @@
 -- Each event on a pool keeps the state sound.
-use Rattle.std.proofs.Common.{◌≡◌, ◌≢◌, ℕ, zero, suc, ◌+◌, ◌-◌, ◌*◌, ◌<◌, ◌≤◌, ◌^◌, Bool, true, false, not, cond, ◌==◌, nat_eq, nat_lt, nat_le, List, [], ◌∷◌, ◌++◌, length, get_or, reverse, find, Option, Some, None, IsSome, Ok, Err, Result, is_ok, refl, sym, ap, subst, arith, ◌∙◌, sum_by, ◌⊎◌, inl, inr, zero-add, true≢false}
+use Rattle.std.proofs.Common.{◌≡◌, ◌≢◌, ℕ, zero, suc, ◌+◌, ◌-◌, ◌*◌, ◌<◌, ◌≤◌, ◌^◌, Bool, true, false, not, cond, ◌==◌, nat_eq, nat_lt, nat_le, List, [], ◌∷◌, ◌++◌, length, get_or, reverse, find, Option, Some, None, IsSome, Ok, Err, Result, is_ok, refl, sym, ap, subst, arith, ◌∙◌, sum_by, ◌⊎◌, inl, inr, option_map, zero-add, true≢false}
 use Rattle.std.specs.Prelude.{count_by, is_some, ◌&&◌, ◌||◌, if◌then◌else◌}
 use Rattle.std.specs.List.{IsDistinct, slice_get, slice_set}
+use Rattle.std.specs.Option.{option_or, option_map_or}
+use Rattle.std.proofs.lemmas.List.{reverse-append}
+use Rattle.std.proofs.lemmas.List.Folds.{find-append}
+use Rattle.std.proofs.lemmas.Map.Keys.{IsDistinct-tail}
 use Rattle.std.specs.Map.{keys_of, values_of, lookup, remove_entry, set_value}
 use Rattle.std.proofs.lemmas.Bool.Decides.{nat_tests}
-use Rattle.std.proofs.lemmas.Option.{same_Some}
+use Rattle.std.proofs.lemmas.Option.{same_Some, cond_some}
 use Rattle.naim_core.specs.Charges.{under_part, under_sum, room_of}
 use Rattle.naim_core.specs.Rows
 use Rattle.naim_core.specs.Sound.{hands_with, wanted_by, read_pins, write_pins, movers, IsFitStage, IsFitPool, KeepsPin, IsSound}
@@ -20,7 +24,7 @@ use Rattle.naim_core.specs.declared.pool.Pool.{Pool}
 use Rattle.naim_core.specs.declared.pool.Stage.{Stage}
 use Rattle.naim_core.specs.declared.pool.Stage.TheVariants as stage
 use Rattle.naim_core.specs.declared.state.Hand.{Hand}
-use Rattle.naim_core.proofs.Maps.{same_number, number_itself, other_number, sum_removed, apart_number}
+use Rattle.naim_core.proofs.Maps.{same_number, number_itself, other_number, sum_removed, apart_number, head_absent}
 use Rattle.naim_core.proofs.Keeps.{one, Swapped, swapped_front, swapped_in_place, Fits, Change, change_sound}
 
 -- a place that holds p
@@ -287,7 +291,7 @@ offload_end_sound s p w stage.Offloading e c t wr r mv sound at hand ok =
 offload_end_sound s p w _ e c t wr r mv sound at hand ok = let part = permit_head (not (holds mv p && false)) NotHeld _ ok in let both = both_of (holds mv p) false part.0 in no_both both.1
 
 -- the fit of a form
-fit_of : (limit under : ℕ) (f : Form) (e c : ℕ) → is_ok (permit (Rows.fit_row limit under f e c) tt) ≡ true → under + Rows.bytes_of f e c ≤ limit
+fit_of : (limit under : ℕ) (f : Form) (e c : ℕ) → is_ok (permit (Rows.fit_row limit under f e c) e) ≡ true → under + Rows.bytes_of f e c ≤ limit
 fit_of limit under f e c ok =
     let small = permit_head (Rows.is_compact_form f && nat_lt limit c) (TooSmall c) _ ok in
     let room = permit_head (nat_lt limit (under + Rows.bytes_of f e c)) (NeedsRoom (Rows.bytes_of f e c)) _ small.1 in not_above _ limit room.0
@@ -341,8 +345,81 @@ unpin_read_sound s p w f (stage.Read n) e c t wr r m sound at hand ok =
       | true ↦ λ one_left. let k = rw one_left at part.1 in
           reader_leaves s p w n (Rows.free_in f) e c t wr r m sound at hand (holds_is r p both.0)
             (let z = free_reads read_pins refl refl f in let o = same_number n 1 one_left in omega arith) (free_reads write_pins refl refl f) (free_reads movers refl refl f) (free_home f) (fit_stage f)
-            (let a = free_under f e c in let b = fit_of s.limit (under_sum s.pools) f e c (permit_any (Rows.fit_row s.limit (under_sum s.pools) f e c) (at_stage (Rows.free_in f) e c) tt k) in omega arith) (λ m d z. free_still f m d z)
+            (let a = free_under f e c in let b = fit_of s.limit (under_sum s.pools) f e c (permit_any (Rows.fit_row s.limit (under_sum s.pools) f e c) (at_stage (Rows.free_in f) e c) e k) in omega arith) (λ m d z. free_still f m d z)
       | false ↦ λ more. let ne : n ≢ 1 = apart_number n 1 more in
           reader_leaves s p w n (stage.Read (n - 1)) e c t wr r m sound at hand (holds_is r p both.0) (omega arith) refl refl refl (omega arith) (let u = sound.under_fits in omega arith) (λ m d z. let k : 0 ≡ 1 = ap movers z in omega arith)
     ]) refl
 unpin_read_sound s p w f _ e c t wr r m sound at hand ok = let part = permit_head (not (holds r p && false)) NotHeld _ ok in let both = both_of (holds r p) false part.0 in no_both both.1
+
+not_not : (b : Bool) → not b ≡ false → b ≡ true
+not_not true h = refl
+not_not false h = cc
+
+-- the last entry that passes stands at its PID
+found_back : (test : ℕ × Pool → Bool) (es : List (ℕ × Pool)) (e : ℕ × Pool) → IsDistinct nat_eq (keys_of es) → find test (reverse es) ≡ Some e → (lookup (nat_eq e.0) es ≡ Some e.1) × (test e ≡ true)
+found_back test [] e d h = cc
+found_back test (a ∷ es) e d h =
+    let back = ap (find test) (reverse-append (a ∷ []) es) ∙ find-append test (reverse es) (a ∷ []) in
+    let h' : option_or (find test (reverse es)) (cond (test a) (Some a) None) ≡ Some e = sym back ∙ h in
+    (elim (find test (reverse es)) as (λ o. find test (reverse es) ≡ o → option_or o (cond (test a) (Some a) None) ≡ Some e → (lookup (nat_eq e.0) (a ∷ es) ≡ Some e.1) × (test e ≡ true)) [
+      | Some f ↦ λ is k. let same : f ≡ e = same_Some f e k in let on = found_back test es e (IsDistinct-tail nat_eq a.0 (keys_of es) d) (is ∙ k) in
+          (rw (later e a es d on.0) on.0, on.1)
+      | None ↦ λ is k. let c = cond_some (test a) a e k in (rw (ap (nat_eq e.0) (ap (λ v. v.0) c.1) ∙ number_itself e.0) (ap (λ v. Some v.1) c.1), ap test (sym c.1) ∙ c.0)
+    ]) refl h'
+    where
+      later : (e a : ℕ × Pool) (es : List (ℕ × Pool)) → IsDistinct nat_eq (keys_of (a ∷ es)) → lookup (nat_eq e.0) es ≡ Some e.1 → nat_eq e.0 a.0 ≡ false
+      later e a es d h = other_number e.0 a.0 (λ same. let none = head_absent a.0 es d in let k : Some e.1 ≡ None = sym h ∙ (ap (λ i. lookup (nat_eq i) es) same ∙ none) in cc)
+
+-- the victim is free or compacted
+victim_is : (pools : List (ℕ × Pool)) (p : ℕ) (x : Pool) → IsDistinct nat_eq (keys_of pools) → victim pools ≡ Some p → pool_at pools p ≡ Some x → (is_free x.stage ≡ true) ⊎ (is_compacted x.stage ≡ true)
+victim_is pools p x d v at =
+    (elim (find (λ e. is_free e.1.stage) (reverse pools)) as (λ o. find (λ e. is_free e.1.stage) (reverse pools) ≡ o → option_map_or (λ e. Some e.0) o (option_map (λ e. e.0) (find (λ e. is_compacted e.1.stage) (reverse pools))) ≡ Some p → (is_free x.stage ≡ true) ⊎ (is_compacted x.stage ≡ true)) [
+      | Some e ↦ λ is k. let f = found_back (λ e. is_free e.1.stage) pools e d is in let same : e.0 ≡ p = same_Some e.0 p k in
+          let c : x ≡ e.1 = same_Some x e.1 (sym at ∙ (ap (λ i. lookup (nat_eq i) pools) (sym same) ∙ f.0)) in inl (ap (λ z. is_free z.stage) c ∙ f.1)
+      | None ↦ λ is k. (elim (find (λ e. is_compacted e.1.stage) (reverse pools)) as (λ o. find (λ e. is_compacted e.1.stage) (reverse pools) ≡ o → option_map (λ e. e.0) o ≡ Some p → (is_free x.stage ≡ true) ⊎ (is_compacted x.stage ≡ true)) [
+          | Some e ↦ λ is2 k2. let f = found_back (λ e. is_compacted e.1.stage) pools e d is2 in let same : e.0 ≡ p = same_Some e.0 p k2 in
+              let c : x ≡ e.1 = same_Some x e.1 (sym at ∙ (ap (λ i. lookup (nat_eq i) pools) (sym same) ∙ f.0)) in inr (ap (λ z. is_compacted z.stage) c ∙ f.1)
+          | None ↦ λ is2 k2. cc
+        ]) refl k
+    ]) refl v
+
+pub compact_begin_sound : (s : Core) (p w wanted : ℕ) (st : Stage) (e c : ℕ) (t wr r m : Option ℕ) → IsSound s → pool_at s.pools p ≡ Some (at_stage st e c) → slice_get s.hands w ≡ Some (hand_of t wr r m) →
+    is_ok (permit (Rows.compact_begin_row s.limit (under_sum s.pools) (victim s.pools) (at_stage st e c) (hand_of t wr r m) p wanted) (at_stage stage.Compacting e c)) ≡ true →
+    IsSound (record s { pools = in_place p (at_stage stage.Compacting e c) s.pools; hands = slice_set s.hands w (hand_of t wr r (Some p)); disk = s.disk })
+compact_begin_sound s p w wanted st e c t wr r (Some k) sound at hand ok = cc
+compact_begin_sound s p w wanted stage.Free e c t wr r None sound at hand ok =
+    let x = at_stage stage.Free e c in let y = at_stage stage.Compacting e c in let h = hand_of t wr r None in let g = hand_of t wr r (Some p) in
+    let swap = swapped_in_place p x y s.pools sound.one_pool at in let fits = sound.forms_fit p x at in
+    change_at s p w x y h g (in_place p y s.pools) s.disk sound at hand swap
+      (fit_at s.limit stage.Free stage.Compacting e c fits tt) (let u = sound.under_fits in let f = fits.shorter in omega arith)
+      (fits_same read_pins p x y r refl) (fits_same write_pins p x y wr refl) (fits_take movers p x y refl)
+      (pins_move p x y g s.pools (in_place p y s.pools) swap (λ m d k. let z : 0 ≡ 1 = ap moves_count k in omega arith) refl) (λ m d k. let z : 0 ≡ 1 = ap moves_count k in absurd (omega arith)) refl refl (λ i. sound.own_task i w h hand)
+    where
+      moves_count : Stage → ℕ
+      moves_count (stage.Reloading m d) = 1
+      moves_count _ = 0
+compact_begin_sound s p w wanted (stage.Read n) e c t wr r None sound at hand ok =
+    let a = permit_head (nat_le (under_sum s.pools + wanted) s.limit) Fits_refusal _ ok in let b = permit_head (not (holds (victim s.pools) p)) NotVictim _ a.1 in
+    elim (victim_is s.pools p (at_stage (stage.Read n) e c) sound.one_pool (holds_is (victim s.pools) p (not_not _ b.0)) at) [ inl h ↦ no_both h | inr h ↦ no_both h ]
+compact_begin_sound s p w wanted (stage.Written n) e c t wr r None sound at hand ok =
+    let a = permit_head (nat_le (under_sum s.pools + wanted) s.limit) Fits_refusal _ ok in let b = permit_head (not (holds (victim s.pools) p)) NotVictim _ a.1 in
+    elim (victim_is s.pools p (at_stage (stage.Written n) e c) sound.one_pool (holds_is (victim s.pools) p (not_not _ b.0)) at) [ inl h ↦ no_both h | inr h ↦ no_both h ]
+compact_begin_sound s p w wanted _ e c t wr r None sound at hand ok = cc
+
+pub offload_begin_sound : (s : Core) (p w wanted : ℕ) (st : Stage) (e c : ℕ) (t wr r m : Option ℕ) → IsSound s → pool_at s.pools p ≡ Some (at_stage st e c) → slice_get s.hands w ≡ Some (hand_of t wr r m) →
+    is_ok (permit (Rows.offload_begin_row s.limit (under_sum s.pools) (victim s.pools) (at_stage st e c) (hand_of t wr r m) p wanted s.disk) (at_stage stage.Offloading e c)) ≡ true →
+    IsSound (record s { pools = in_place p (at_stage stage.Offloading e c) s.pools; hands = slice_set s.hands w (hand_of t wr r (Some p)); disk = Some w })
+offload_begin_sound s p w wanted st e c t wr r (Some k) sound at hand ok = cc
+offload_begin_sound s p w wanted stage.Compacted e c t wr r None sound at hand ok =
+    let out = permit_head (is_some s.disk) DiskOut _ ok in
+    let x = at_stage stage.Compacted e c in let y = at_stage stage.Offloading e c in let h = hand_of t wr r None in let g = hand_of t wr r (Some p) in
+    let swap = swapped_in_place p x y s.pools sound.one_pool at in let fits = sound.forms_fit p x at in
+    change_at s p w x y h g (in_place p y s.pools) (Some w) sound at hand swap
+      (fit_at s.limit stage.Compacted stage.Offloading e c fits tt) (let u = sound.under_fits in omega arith)
+      (fits_same read_pins p x y r refl) (fits_same write_pins p x y wr refl) (fits_take movers p x y refl)
+      (pins_move p x y g s.pools (in_place p y s.pools) swap (λ m d k. let z : 0 ≡ 1 = ap moves_count k in omega arith) refl) (λ m d k. let z : 0 ≡ 1 = ap moves_count k in absurd (omega arith)) (ap (λ b. 1 + one b) out.0) refl (λ i. sound.own_task i w h hand)
+    where
+      moves_count : Stage → ℕ
+      moves_count (stage.Reloading m d) = 1
+      moves_count _ = 0
+offload_begin_sound s p w wanted _ e c t wr r None sound at hand ok = cc

@@ -123,12 +123,13 @@ impl CoreState {
             return Err(Refusal::Absent);
         };
         let hand = self.hands[worker as usize];
+        let disk = self.disk;
         let next = checks::pin_read(pool, hand)?;
         let hand = Hand {
             read: Some(pid),
             ..hand
         };
-        self.change_first(worker, pid, next, hand, self.disk);
+        self.change_first(worker, pid, next, hand, disk);
         Ok(())
     }
 
@@ -141,12 +142,13 @@ impl CoreState {
             return Err(Refusal::Absent);
         };
         let hand = self.hands[worker as usize];
+        let disk = self.disk;
         let next = checks::pin_write(pool, hand, self.in_wave, pid, room)?;
         let hand = Hand {
             written: Some(pid),
             ..hand
         };
-        self.change_first(worker, pid, next, hand, self.disk);
+        self.change_first(worker, pid, next, hand, disk);
         Ok(())
     }
 
@@ -159,12 +161,13 @@ impl CoreState {
             return Err(Refusal::Absent);
         };
         let hand = self.hands[worker as usize];
-        let next = checks::reload_begin(pool, hand, self.in_wave, pid, mode, self.disk)?;
+        let disk = self.disk;
+        let next = checks::reload_begin(pool, hand, self.in_wave, pid, mode, disk)?;
         let hand = hand.with_pin(mode, pid);
         let disk = if pool.stage.is_offloaded() {
             Some(worker)
         } else {
-            self.disk
+            disk
         };
         self.change_in_place(worker, pid, next, hand, disk);
         Ok(())
@@ -179,10 +182,11 @@ impl CoreState {
             return Err(Refusal::Absent);
         };
         let hand = self.hands[worker as usize];
+        let disk = self.disk;
         let disk = if pool.stage.moves_by_disk() {
             None
         } else {
-            self.disk
+            disk
         };
         let next = checks::reload_end(pool, hand, pid)?;
         let hand = Hand {
@@ -202,12 +206,13 @@ impl CoreState {
             return Err(Refusal::Absent);
         };
         let hand = self.hands[worker as usize];
+        let disk = self.disk;
         let next = checks::unpin_read(self.limit, self.pools.under(), pool, hand, pid, form)?;
         let hand = Hand {
             read: None,
             ..hand
         };
-        self.change_first(worker, pid, next, hand, self.disk);
+        self.change_first(worker, pid, next, hand, disk);
         Ok(())
     }
 
@@ -220,6 +225,7 @@ impl CoreState {
             return Err(Refusal::Absent);
         };
         let hand = self.hands[worker as usize];
+        let disk = self.disk;
         let next = checks::unpin_write(self.limit, self.pools.under(), pool, hand, pid, form, e, c)?;
         let hand = Hand {
             written: None,
@@ -228,7 +234,7 @@ impl CoreState {
         if hand.task == Some(pid) {
             self.finish_task(worker, pid, next, Hand { task: None, ..hand });
         } else {
-            self.change_first(worker, pid, next, hand, self.disk);
+            self.change_first(worker, pid, next, hand, disk);
         }
         Ok(())
     }
@@ -242,13 +248,14 @@ impl CoreState {
             return Err(Refusal::Absent);
         };
         let hand = self.hands[worker as usize];
+        let disk = self.disk;
         let victim = self.pools.victim();
         let next = checks::compact_begin(self.limit, self.pools.under(), victim, pool, hand, pid, wanted)?;
         let hand = Hand {
             moved: Some(pid),
             ..hand
         };
-        self.change_in_place(worker, pid, next, hand, self.disk);
+        self.change_in_place(worker, pid, next, hand, disk);
         Ok(())
     }
 
@@ -261,12 +268,13 @@ impl CoreState {
             return Err(Refusal::Absent);
         };
         let hand = self.hands[worker as usize];
+        let disk = self.disk;
         let next = checks::compact_end(pool, hand, pid)?;
         let hand = Hand {
             moved: None,
             ..hand
         };
-        self.change_in_place(worker, pid, next, hand, self.disk);
+        self.change_in_place(worker, pid, next, hand, disk);
         Ok(())
     }
 
@@ -279,8 +287,9 @@ impl CoreState {
             return Err(Refusal::Absent);
         };
         let hand = self.hands[worker as usize];
+        let disk = self.disk;
         let victim = self.pools.victim();
-        let next = checks::offload_begin(self.limit, self.pools.under(), victim, pool, hand, pid, wanted, self.disk)?;
+        let next = checks::offload_begin(self.limit, self.pools.under(), victim, pool, hand, pid, wanted, disk)?;
         let hand = Hand {
             moved: Some(pid),
             ..hand
@@ -298,6 +307,7 @@ impl CoreState {
             return Err(Refusal::Absent);
         };
         let hand = self.hands[worker as usize];
+        let disk = self.disk;
         let next = checks::offload_end(pool, hand, pid)?;
         let hand = Hand {
             moved: None,
