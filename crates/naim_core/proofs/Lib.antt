@@ -1,7 +1,9 @@
+pub mod Bounds
 pub mod Events
 pub mod Fresh
 pub mod Keeps
 pub mod Maps
+pub mod Told
 pub mod Places
 pub mod Tables
 pub mod Walks

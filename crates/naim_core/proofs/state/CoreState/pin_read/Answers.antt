@@ -1,4 +1,5 @@
-use Rattle.naim_core.proofs.Events.{compact_begin_sound, offload_begin_sound, unpin_read_sound}
+use Rattle.naim_core.proofs.Told.{pin_read_keeps, pin_read_follows, pin_read_refused}
+use Rattle.naim_core.proofs.Bounds.{few_readers}
 use Rattle.naim_core.proofs.state.CoreState.pin_read.Goals as goal
 
 pub pin_read-requires : goal.pin_read-requires
