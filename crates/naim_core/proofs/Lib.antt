@@ -2,6 +2,7 @@ pub mod Bounds
 pub mod Events
 pub mod Fresh
 pub mod Keeps
+pub mod Kept
 pub mod Maps
 pub mod Told
 pub mod Places

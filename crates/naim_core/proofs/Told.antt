@@ -10,6 +10,7 @@ use Rattle.naim_core.specs.State.{Core, pool_at, hand_at, empty_hand, is_offload
 use Rattle.naim_core.specs.Steps.{permit, front, in_place, take_pin, Follows, pin_read_step, pin_write_step, reload_begin_step, reload_end_step, unpin_read_step, compact_begin_step, compact_end_step, offload_begin_step, offload_end_step}
 use Rattle.naim_core.specs.declared.event.Form.{Form}
 use Rattle.naim_core.specs.declared.event.Mode.{Mode}
+use Rattle.naim_core.specs.declared.event.Mode.TheVariants as mode
 use Rattle.naim_core.specs.declared.event.Refusal.{Refusal}
 use Rattle.naim_core.specs.declared.pool.Pool.{Pool}
 use Rattle.naim_core.specs.declared.pool.Stage.TheVariants as stage
@@ -29,6 +30,9 @@ hand_there s now p w x h met = slice_get_read s.hands (length s.hands) w h refl 
 
 pub hand_is : (s now : Core) (p w : ℕ) (x : Pool) (h : Hand) → Met s now p w x h → hand_at s.hands w ≡ h
 hand_is s now p w x h met = unwrap_or-slice_get s.hands w empty_hand ∙ get_or_from_slice_get s.hands w h empty_hand (hand_there s now p w x h met)
+
+pub task_same : (s now : Core) (p w : ℕ) (x : Pool) (h : Hand) → Met s now p w x h → h.task ≡ (hand_at now.hands w).task
+task_same s now p w x h met = sym (ap (λ k. k.task) (ap (λ n. hand_at n.hands w) (sym met.view) ∙ hand_is s now p w x h met))
 
 pub pin_read_keeps : (s now : Core) (p w : ℕ) (x y : Pool) (h : Hand) → Met s now p w x h → permit (Rows.pin_read_row x h) (record x { stage = Rows.with_reader x.stage }) ≡ Ok y →
     (disk : Option ℕ) → disk ≡ (s.disk) → IsSound (record now { pools = front p y now.pools; hands = slice_set now.hands w (record h { read = Some p }); disk = disk })
@@ -273,3 +277,7 @@ offload_end_refused s now p w x h r met ok answer is =
     let here : Follows (offload_end_step s w p ) s answer s = rw step (is, refl) in
     subst (λ n. Follows (offload_end_step n w p ) n answer n) met.view here
 
+-- a reload leaves the task as it is
+pub pin_task : (m : Mode) (p : ℕ) (h : Hand) → (take_pin m p h).task ≡ h.task
+pin_task mode.Read p h = refl
+pin_task (mode.Write room) p h = refl

@@ -1,10 +1,10 @@
 //! Whether a pool and a hand allow an event, and the pool that the event leaves.
-ghost use Rattle.std.specs.Prelude.{◌≡◌, ◌+◌, ◌<◌, ◌≤◌, ◌^◌, Ok};
+ghost use Rattle.std.specs.Prelude.{◌≡◌, ◌+◌, ◌<◌, ◌≤◌, ◌^◌, if◌then◌else◌, Some, None};
 ghost use Rattle.naim_core.specs.Charges.{room_of};
 ghost use Rattle.naim_core.specs.Rows;
 ghost use Rattle.naim_core.specs.Rows.{free_in};
 ghost use Rattle.naim_core.specs.Sound.{IsFitStage};
-ghost use Rattle.naim_core.specs.State.{is_offloaded, readers_at};
+ghost use Rattle.naim_core.specs.State.{is_offloaded, moves_by_disk, readers_at};
 ghost use Rattle.naim_core.specs.Steps.{permit};
 
 use crate::event::{Form, Mode, Refusal};
@@ -348,4 +348,22 @@ pub(crate) fn insert(limit: u64, under: u64, present: bool, used: u32, form: For
         e,
         c,
     })
+}
+
+/// Who has the disk once the worker reloads a pool at this stage.
+pub(crate) fn lent(stage: Stage, worker: u32, disk: Option<u32>) -> Option<u32>
+    ensures { result ≡ (if is_offloaded stage then Some worker else disk) }
+{
+    if stage.is_offloaded() {
+        Some(worker)
+    } else {
+        disk
+    }
+}
+
+/// Who has the disk once the reload of a pool at this stage has ended.
+pub(crate) fn returned(stage: Stage, disk: Option<u32>) -> Option<u32>
+    ensures { result ≡ (if moves_by_disk stage then None else disk) }
+{
+    if stage.moves_by_disk() { None } else { disk }
 }

@@ -164,11 +164,7 @@ impl CoreState {
         let disk = self.disk;
         let next = checks::reload_begin(pool, hand, self.in_wave, pid, mode, disk)?;
         let hand = hand.with_pin(mode, pid);
-        let disk = if pool.stage.is_offloaded() {
-            Some(worker)
-        } else {
-            disk
-        };
+        let disk = checks::lent(pool.stage, worker, disk);
         self.change_in_place(worker, pid, next, hand, disk);
         Ok(())
     }
@@ -183,12 +179,8 @@ impl CoreState {
         };
         let hand = self.hands[worker as usize];
         let disk = self.disk;
-        let disk = if pool.stage.moves_by_disk() {
-            None
-        } else {
-            disk
-        };
         let next = checks::reload_end(pool, hand, pid)?;
+        let disk = checks::returned(pool.stage, disk);
         let hand = Hand {
             moved: None,
             ..hand
@@ -249,8 +241,7 @@ impl CoreState {
         };
         let hand = self.hands[worker as usize];
         let disk = self.disk;
-        let victim = self.pools.victim();
-        let next = checks::compact_begin(self.limit, self.pools.under(), victim, pool, hand, pid, wanted)?;
+        let next = checks::compact_begin(self.limit, self.pools.under(), self.pools.victim(), pool, hand, pid, wanted)?;
         let hand = Hand {
             moved: Some(pid),
             ..hand
@@ -288,8 +279,7 @@ impl CoreState {
         };
         let hand = self.hands[worker as usize];
         let disk = self.disk;
-        let victim = self.pools.victim();
-        let next = checks::offload_begin(self.limit, self.pools.under(), victim, pool, hand, pid, wanted, disk)?;
+        let next = checks::offload_begin(self.limit, self.pools.under(), self.pools.victim(), pool, hand, pid, wanted, disk)?;
         let hand = Hand {
             moved: Some(pid),
             ..hand
