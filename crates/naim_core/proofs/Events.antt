@@ -1,11 +1,13 @@
 -- Each event on a pool keeps the state sound.
 use Rattle.std.proofs.Common.{◌≡◌, ◌≢◌, ℕ, zero, suc, ◌+◌, ◌-◌, ◌*◌, ◌<◌, ◌≤◌, ◌^◌, Bool, true, false, not, cond, ◌==◌, nat_eq, nat_lt, nat_le, List, [], ◌∷◌, ◌++◌, length, get_or, reverse, find, Option, Some, None, IsSome, Ok, Err, Result, is_ok, refl, sym, ap, subst, arith, ◌∙◌, sum_by, ◌⊎◌, inl, inr, option_map, zero-add, true≢false}
 use Rattle.std.specs.Prelude.{count_by, is_some, ◌&&◌, ◌||◌, if◌then◌else◌}
+use Rattle.std.specs.Cmp.{nat_eq_equiv}
+use Rattle.std.proofs.lemmas.List.Sums.{sum_by-cons}
 use Rattle.std.specs.List.{IsDistinct, slice_get, slice_set}
 use Rattle.std.specs.Option.{option_or, option_map_or}
 use Rattle.std.proofs.lemmas.List.{reverse-append}
 use Rattle.std.proofs.lemmas.List.Folds.{find-append}
-use Rattle.std.proofs.lemmas.Map.Keys.{IsDistinct-tail}
+use Rattle.std.proofs.lemmas.Map.Keys.{IsDistinct-tail, IsDistinct-cons}
 use Rattle.std.specs.Map.{keys_of, values_of, lookup, remove_entry, set_value}
 use Rattle.std.proofs.lemmas.Bool.Decides.{nat_tests}
 use Rattle.std.proofs.lemmas.Option.{same_Some, cond_some}
@@ -19,12 +21,12 @@ use Rattle.naim_core.specs.declared.event.Form.TheVariants as form
 use Rattle.naim_core.specs.declared.event.Mode.{Mode}
 use Rattle.naim_core.specs.declared.event.Mode.TheVariants as mode
 use Rattle.naim_core.specs.declared.event.Refusal.{Refusal}
-use Rattle.naim_core.specs.declared.event.Refusal.TheVariants.{NotHeld, HandFull, NoTask, Moving, WrongForm, InUse, DiskOut, Fits as Fits_refusal, NotVictim, BadSize, TooSmall, NeedsRoom}
+use Rattle.naim_core.specs.declared.event.Refusal.TheVariants.{NotHeld, HandFull, NoTask, Moving, WrongForm, InUse, DiskOut, Fits as Fits_refusal, NotVictim, Present, Full, BadSize, TooSmall, NeedsRoom}
 use Rattle.naim_core.specs.declared.pool.Pool.{Pool}
 use Rattle.naim_core.specs.declared.pool.Stage.{Stage}
 use Rattle.naim_core.specs.declared.pool.Stage.TheVariants as stage
 use Rattle.naim_core.specs.declared.state.Hand.{Hand}
-use Rattle.naim_core.proofs.Maps.{same_number, number_itself, other_number, sum_removed, apart_number, head_absent}
+use Rattle.naim_core.proofs.Maps.{same_number, number_itself, other_number, sum_removed, apart_number, head_absent, apart_from_none}
 use Rattle.naim_core.proofs.Keeps.{one, Swapped, swapped_front, swapped_in_place, Fits, Change, change_sound}
 
 -- a place that holds p
@@ -63,6 +65,12 @@ change_at s p w x y h g pools disk sound at hand swap fits under reads writes mo
       kept = λ t. ap (λ o. count_by (nat_eq t) s.unclaimed + count_by (nat_eq t) s.done + one (holds o t)) task;
       own = own;
     })
+
+fits_like : (number : Stage → ℕ) (p : ℕ) (x y : Pool) (a b : Option ℕ) → a ≡ b → number y.stage ≡ number x.stage → Fits number p x y a b
+fits_like number p x y a b same e = subst (Fits number p x y a) same (fits_same number p x y a e)
+
+fits_gone : (number : Stage → ℕ) (p : ℕ) (x y : Pool) (a b : Option ℕ) → a ≡ Some p → b ≡ None → number y.stage + 1 ≡ number x.stage → Fits number p x y a b
+fits_gone number p x y a b had left e = subst (λ o. Fits number p x y o b) (sym had) (subst (Fits number p x y (Some p)) (sym left) (fits_drop number p x y e))
 
 -- what the other moves of the hand want stays
 pins_same : (s : Core) (p w : ℕ) (x y : Pool) (h g : Hand) (pools : List (ℕ × Pool)) → IsSound s → slice_get s.hands w ≡ Some h → Swapped p x y s.pools pools →
@@ -296,6 +304,10 @@ fit_of limit under f e c ok =
     let small = permit_head (Rows.is_compact_form f && nat_lt limit c) (TooSmall c) _ ok in
     let room = permit_head (nat_lt limit (under + Rows.bytes_of f e c)) (NeedsRoom (Rows.bytes_of f e c)) _ small.1 in not_above _ limit room.0
 
+fit_within : (limit under : ℕ) (f : Form) (e c : ℕ) → is_ok (permit (Rows.fit_row limit under f e c) e) ≡ true → c ≤ e → c ≤ limit
+fit_within limit under form.Expanded e c ok short = let a = fit_of limit under form.Expanded e c ok in omega arith
+fit_within limit under form.Compacted e c ok short = let a = fit_of limit under form.Compacted e c ok in omega arith
+
 permit_any : {X Y : Type 0} (row : Rows.Row) (x : X) (y : Y) → is_ok (permit row x) ≡ true → is_ok (permit row y) ≡ true
 permit_any [] x y h = refl
 permit_any ((true, r) ∷ row) x y h = cc
@@ -423,3 +435,98 @@ offload_begin_sound s p w wanted stage.Compacted e c t wr r None sound at hand o
       moves_count (stage.Reloading m d) = 1
       moves_count _ = 0
 offload_begin_sound s p w wanted _ e c t wr r None sound at hand ok = cc
+
+-- a new value fits as the form says
+pub unpin_write_sound : (s : Core) (p w : ℕ) (f : Form) (ne nc : ℕ) (st : Stage) (e c : ℕ) (t wr r m : Option ℕ) → IsSound s → pool_at s.pools p ≡ Some (at_stage st e c) → slice_get s.hands w ≡ Some (hand_of t wr r m) →
+    is_ok (permit (Rows.unpin_write_row s.limit (under_sum s.pools) (at_stage st e c) (hand_of t wr r m) p f ne nc) (Rows.inserted f ne nc)) ≡ true →
+    (g : Hand) (done : List ℕ) → g.read ≡ r → g.moved ≡ m → g.written ≡ None →
+    ((q : ℕ) → count_by (nat_eq q) s.unclaimed + count_by (nat_eq q) done + one (holds g.task q) ≡ count_by (nat_eq q) s.unclaimed + count_by (nat_eq q) s.done + one (holds t q)) →
+    IsSound (record s { pools = front p (Rows.inserted f ne nc) s.pools; hands = slice_set s.hands w g; done = done })
+unpin_write_sound s p w f ne nc (stage.Written n) e c t wr r m sound at hand ok g done read moved none tasks =
+    let part = permit_head (not (holds wr p && true)) NotHeld _ ok in let both = both_of (holds wr p) true part.0 in
+    let size = permit_head (nat_lt ne nc || nat_lt (2 ^ 40) ne || nat_lt n (ne + nc)) BadSize _ part.1 in
+    let sizes = sizes_fit (nat_lt ne nc) (nat_lt (2 ^ 40) ne) (nat_lt n (ne + nc)) size.0 in
+    let room = fit_of s.limit (under_sum s.pools) f ne nc (permit_any (Rows.fit_row s.limit (under_sum s.pools) f ne nc) (Rows.inserted f ne nc) ne size.1) in
+    let short = fit_within s.limit (under_sum s.pools) f ne nc (permit_any (Rows.fit_row s.limit (under_sum s.pools) f ne nc) (Rows.inserted f ne nc) ne size.1) (not_above nc ne sizes.0) in
+    let x = at_stage (stage.Written n) e c in let y = Rows.inserted f ne nc in let h = hand_of t wr r m in
+    let swap = swapped_front p x y s.pools sound.one_pool at in
+    let held = holds_is wr p both.0 in
+    let z = free_under f ne nc in
+    change_sound s (record s { pools = front p y s.pools; hands = slice_set s.hands w g; done = done }) p w x y h g sound (record {
+      pool = at; hand = hand; pools = swap; hands = refl; limit = refl;
+      fits = record { shorter = not_above nc ne sizes.0; within = short; charge = not_above ne (2 ^ 40) sizes.1; stage_fits = fit_stage f };
+      under = (let a = sound.under_fits in omega arith);
+      reads = fits_like read_pins p x y r g.read (sym read) (free_reads read_pins refl refl f);
+      writes = fits_gone write_pins p x y wr g.written held none (ap (λ k. k + 1) (free_reads write_pins refl refl f));
+      moves = fits_like movers p x y m g.moved (sym moved) (free_reads movers refl refl f);
+      pins = pins_same s p w x y h g (front p y s.pools) sound hand swap (λ m d k. free_still f m d k) moved (λ q d k. read ∙ k) (λ q d k. absurd (d (same_Some p q (sym held ∙ k))));
+      fresh = λ m d k. free_still f m d k;
+      disk = ap (λ b. one b + one (is_some s.disk)) (free_home f);
+      in_wave = refl; tasks = refl; kept = tasks;
+      own = λ i q k. let l : None ≡ Some q = sym none ∙ k in cc;
+    })
+    where
+      sizes_fit : (a b c : Bool) → (a || b || c) ≡ false → (a ≡ false) × (b ≡ false) × (c ≡ false)
+      sizes_fit false false false h = (refl, refl, refl)
+      sizes_fit true b c h = cc
+      sizes_fit false true c h = cc
+      sizes_fit false false true h = cc
+unpin_write_sound s p w f ne nc _ e c t wr r m sound at hand ok g done read moved none tasks = let part = permit_head (not (holds wr p && false)) NotHeld _ ok in let both = both_of (holds wr p) false part.0 in no_both both.1
+
+-- the pools with one that was absent
+pub insert_sound : (s : Core) (p : ℕ) (f : Form) (e c : ℕ) → IsSound s → is_ok (permit (Rows.insert_row s.limit (under_sum s.pools) (is_some (pool_at s.pools p)) (length s.pools) f e c) (Rows.inserted f e c)) ≡ true →
+    IsSound (record s { pools = (p, Rows.inserted f e c) ∷ s.pools })
+insert_sound s p f e c sound ok =
+    let absent = permit_head (is_some (pool_at s.pools p)) Present _ ok in
+    let full = permit_head (nat_le 4096 (length s.pools)) Full _ absent.1 in
+    let size = permit_head (nat_lt e c || nat_lt (2 ^ 40) e) BadSize _ full.1 in
+    let sizes = both_false (nat_lt e c) (nat_lt (2 ^ 40) e) size.0 in
+    let room = fit_of s.limit (under_sum s.pools) f e c (permit_any (Rows.fit_row s.limit (under_sum s.pools) f e c) (Rows.inserted f e c) e size.1) in
+    let short = fit_within s.limit (under_sum s.pools) f e c (permit_any (Rows.fit_row s.limit (under_sum s.pools) f e c) (Rows.inserted f e c) e size.1) (not_above c e sizes.0) in
+    let x = Rows.inserted f e c in
+    let none : pool_at s.pools p ≡ None = none_of (pool_at s.pools p) absent.0 in
+    let z = free_under f e c in
+    let found : (q : ℕ) → pool_at ((p, x) ∷ s.pools) q ≡ cond (nat_eq p q) (Some x) (pool_at s.pools q) = λ q. ap (λ b. cond b (Some x) (pool_at s.pools q)) (nat_eq_equiv.symm q p) in
+    let still : (number : Stage → ℕ) → number (Rows.free_in f) ≡ 0 → (q n : ℕ) → n ≡ wanted_by number (pool_at s.pools q) → n ≡ wanted_by number (pool_at ((p, x) ∷ s.pools) q) = λ number zero_at q n was.
+        (elim (nat_eq p q) as (λ b. nat_eq p q ≡ b → n ≡ wanted_by number (pool_at ((p, x) ∷ s.pools) q)) [
+          | true ↦ λ t. let k = found q in let k' = rw t at k in let same = same_number p q t in
+              was ∙ (ap (λ i. wanted_by number (pool_at s.pools i)) (sym same) ∙ ap (wanted_by number) none) ∙ sym (ap (wanted_by number) k' ∙ zero_at)
+          | false ↦ λ t. let k = found q in let k' = rw t at k in was ∙ sym (ap (wanted_by number) k')
+        ]) refl in
+    record {
+      under_fits = (let k = sum_by-cons under_part x (values_of s.pools) in let g : sum_by under_part (x ∷ values_of s.pools) ≤ s.limit = omega arith in g);
+      one_pool = IsDistinct-cons nat_eq p (keys_of s.pools) (apart_from_none p s.pools none) sound.one_pool;
+      slots = (let k = below_full (length s.pools) full.0 in let g : length ((p, x) ∷ s.pools) ≤ 4096 = omega arith in g);
+      forms_fit = λ q y is. (elim (nat_eq p q) as (λ b. nat_eq p q ≡ b → IsFitPool s.limit y) [
+        | true ↦ λ t. let k = found q in let k' = rw t at k in subst (IsFitPool s.limit) (same_Some x y (sym k' ∙ is)) (record { shorter = not_above c e sizes.0; within = short; charge = not_above e (2 ^ 40) sizes.1; stage_fits = fit_stage f })
+        | false ↦ λ t. let k = found q in let k' = rw t at k in sound.forms_fit q y (sym k' ∙ is)
+      ]) refl;
+      readers = λ q. still read_pins (free_reads read_pins refl refl f) q _ (sound.readers q);
+      writers = λ q. still write_pins (free_reads write_pins refl refl f) q _ (sound.writers q);
+      one_mover = λ q. still movers (free_reads movers refl refl f) q _ (sound.one_mover q);
+      pins_kept = λ k h is q y d m at. (elim (nat_eq p q) as (λ b. nat_eq p q ≡ b → (y.stage ≡ stage.Reloading mode.Read d → h.read ≡ Some q) × ((room : ℕ) → y.stage ≡ stage.Reloading (mode.Write room) d → h.written ≡ Some q)) [
+        | true ↦ λ t. let l = found q in let l' = rw t at l in let same : x ≡ y = same_Some x y (sym l' ∙ at) in
+            ((λ r. free_still f mode.Read d (ap (λ v. v.stage) same ∙ r)), (λ room r. free_still f (mode.Write room) d (ap (λ v. v.stage) same ∙ r)))
+        | false ↦ λ t. let l = found q in let l' = rw t at l in sound.pins_kept k h is q y d m (sym l' ∙ at)
+      ]) refl;
+      one_disk_move = (let a = sum_by-cons (λ v. one (moves_by_disk v.stage)) x (values_of s.pools) in let b = sound.one_disk_move in let h : one (moves_by_disk x.stage) ≡ 0 = ap one (free_home f) in
+          let g : count_by (λ v. moves_by_disk v.stage) (x ∷ values_of s.pools) ≡ (if is_some s.disk then 1 else 0) = omega arith in g);
+      tasks_differ = sound.tasks_differ;
+      tasks_present = λ t i. let was = sound.tasks_present t i in (elim (nat_eq p t) as (λ b. nat_eq p t ≡ b → IsSome (pool_at ((p, x) ∷ s.pools) t)) [
+        | true ↦ λ e. let k = found t in let k' = rw e at k in rw k' refl
+        | false ↦ λ e. let k = found t in let k' = rw e at k in rw k' was
+      ]) refl;
+      tasks_kept = sound.tasks_kept;
+      own_task = sound.own_task;
+      no_tasks = sound.no_tasks;
+    }
+    where
+      both_false : (a b : Bool) → (a || b) ≡ false → (a ≡ false) × (b ≡ false)
+      both_false false false h = (refl, refl)
+      both_false true b h = cc
+      both_false false true h = cc
+      none_of : (o : Option Pool) → is_some o ≡ false → o ≡ None
+      none_of None h = refl
+      none_of (Some x) h = cc
+      below_full : (n : ℕ) → nat_le 4096 n ≡ false → n < 4096
+      below_full n h = grind (arith, nat_tests)
