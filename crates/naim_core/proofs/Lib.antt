@@ -8,3 +8,4 @@ pub mod Told
 pub mod Places
 pub mod Tables
 pub mod Walks
+pub mod Waves

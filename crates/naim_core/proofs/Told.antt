@@ -1,13 +1,15 @@
 -- Each event on a pool, told of the state that contracts see.
-use Rattle.std.proofs.Common.{◌≡◌, ℕ, ◌+◌, ◌*◌, ◌<◌, ◌≤◌, ◌^◌, Bool, true, false, nat_eq, List, length, get_or, Option, Some, None, IsSome, Ok, Err, Result, refl, sym, ap, subst, arith, ◌∙◌}
-use Rattle.std.specs.Prelude.{is_some, if◌then◌else◌}
+use Rattle.std.proofs.Common.{◌≡◌, ℕ, ◌+◌, ◌*◌, ◌<◌, ◌≤◌, ◌^◌, Bool, true, false, nat_eq, List, [], ◌∷◌, ◌++◌, sum_by, length, get_or, Option, Some, None, IsSome, Ok, Err, Result, refl, sym, ap, subst, arith, ◌∙◌}
+use Rattle.std.specs.Cmp.{nat_eq_equiv}
+use Rattle.std.proofs.lemmas.List.Sums.{sum_by-append, sum_by-cons}
+use Rattle.std.specs.Prelude.{count_by, is_some, if◌then◌else◌}
 use Rattle.std.specs.List.{slice_get, slice_set}
 use Rattle.std.proofs.lemmas.Option.{slice_get_read, unwrap_or-slice_get, get_or_from_slice_get}
 use Rattle.naim_core.specs.Charges.{under_sum}
 use Rattle.naim_core.specs.Rows
 use Rattle.naim_core.specs.Sound.{IsSound}
-use Rattle.naim_core.specs.State.{Core, pool_at, hand_at, empty_hand, is_offloaded, moves_by_disk, victim}
-use Rattle.naim_core.specs.Steps.{permit, front, in_place, take_pin, Follows, pin_read_step, pin_write_step, reload_begin_step, reload_end_step, unpin_read_step, compact_begin_step, compact_end_step, offload_begin_step, offload_end_step}
+use Rattle.naim_core.specs.State.{Core, pool_at, hand_at, empty_hand, holds, is_offloaded, moves_by_disk, victim}
+use Rattle.naim_core.specs.Steps.{permit, front, in_place, take_pin, Follows, pin_read_step, pin_write_step, reload_begin_step, reload_end_step, unpin_read_step, compact_begin_step, compact_end_step, offload_begin_step, offload_end_step, unpin_write_step}
 use Rattle.naim_core.specs.declared.event.Form.{Form}
 use Rattle.naim_core.specs.declared.event.Mode.{Mode}
 use Rattle.naim_core.specs.declared.event.Mode.TheVariants as mode
@@ -15,7 +17,9 @@ use Rattle.naim_core.specs.declared.event.Refusal.{Refusal}
 use Rattle.naim_core.specs.declared.pool.Pool.{Pool}
 use Rattle.naim_core.specs.declared.pool.Stage.TheVariants as stage
 use Rattle.naim_core.specs.declared.state.Hand.{Hand}
-use Rattle.naim_core.proofs.Events.{permit_gives, permit_ok, pin_read_sound, pin_write_sound, reload_begin_sound, reload_end_sound, unpin_read_sound, compact_begin_sound, compact_end_sound, offload_begin_sound, offload_end_sound}
+use Rattle.naim_core.proofs.Events.{permit_gives, permit_ok, pin_read_sound, pin_write_sound, reload_begin_sound, reload_end_sound, unpin_read_sound, compact_begin_sound, compact_end_sound, offload_begin_sound, offload_end_sound, unpin_write_sound, holds_is}
+use Rattle.naim_core.proofs.Keeps.{one}
+use Rattle.naim_core.proofs.Maps.{number_itself}
 
 -- the pool p and the hand of the worker w, as they were read in the state s; contracts see s as now
 pub record Met (s now : Core) (p w : ℕ) (x : Pool) (h : Hand) : Type 0 where
@@ -281,3 +285,53 @@ offload_end_refused s now p w x h r met ok answer is =
 pub pin_task : (m : Mode) (p : ℕ) (h : Hand) → (take_pin m p h).task ≡ h.task
 pin_task mode.Read p h = refl
 pin_task (mode.Write room) p h = refl
+
+-- the sum of the places that hold q, where the task that is done leaves the hand
+done_counts : (s : Core) (p : ℕ) (t : Option ℕ) → t ≡ Some p → (q : ℕ) → count_by (nat_eq q) s.unclaimed + count_by (nat_eq q) (s.done ++ p ∷ []) + one (holds None q) ≡ count_by (nat_eq q) s.unclaimed + count_by (nat_eq q) s.done + one (holds t q)
+done_counts s p t is q = let a = sum_by-append (λ i. one (nat_eq q i)) s.done (p ∷ []) in let b = sum_by-cons (λ i. one (nat_eq q i)) p [] in let c : one (holds t q) ≡ one (nat_eq p q) = ap (λ o. one (holds o q)) is in let d = ap one (nat_eq_equiv.symm q p) in
+    let z : sum_by (λ i. one (nat_eq q i)) [] ≡ 0 = refl in let y : one (holds None q) ≡ 0 = refl in omega arith
+
+pub unpin_write_done : (s now : Core) (p w : ℕ) (f : Form) (e c : ℕ) (x y : Pool) (h : Hand) → Met s now p w x h → permit (Rows.unpin_write_row s.limit (under_sum s.pools) x h p f e c) (Rows.inserted f e c) ≡ Ok y → h.task ≡ Some p →
+    IsSound (record now { pools = front p y now.pools; hands = slice_set now.hands w (record h { written = None; task = None }); done = now.done ++ p ∷ [] })
+unpin_write_done s now p w f e c x y h met ok task =
+    let row = Rows.unpin_write_row s.limit (under_sum s.pools) x h p f e c in let new : Pool = Rows.inserted f e c in let g : Hand = record h { written = None; task = None } in
+    let kept = unpin_write_sound s p w f e c x.stage x.e x.c h.task h.written h.read h.moved met.sound met.found (hand_there s now p w x h met) (permit_ok row new y ok) g (s.done ++ p ∷ []) refl refl refl (done_counts s p h.task task) in
+    let kept' : IsSound (record s { pools = front p y s.pools; hands = slice_set s.hands w g; done = s.done ++ p ∷ [] }) =
+        subst (λ z. IsSound (record s { pools = front p z s.pools; hands = slice_set s.hands w g; done = s.done ++ p ∷ [] })) (permit_gives row new y ok) kept in
+    subst (λ n. IsSound (record n { pools = front p y n.pools; hands = slice_set n.hands w g; done = n.done ++ p ∷ [] })) met.view kept'
+
+pub unpin_write_other : (s now : Core) (p w : ℕ) (f : Form) (e c : ℕ) (x y : Pool) (h : Hand) → Met s now p w x h → permit (Rows.unpin_write_row s.limit (under_sum s.pools) x h p f e c) (Rows.inserted f e c) ≡ Ok y →
+    (disk : Option ℕ) → disk ≡ s.disk → IsSound (record now { pools = front p y now.pools; hands = slice_set now.hands w (record h { written = None }); disk = disk })
+unpin_write_other s now p w f e c x y h met ok disk home =
+    let row = Rows.unpin_write_row s.limit (under_sum s.pools) x h p f e c in let new : Pool = Rows.inserted f e c in let g : Hand = record h { written = None } in
+    let kept = unpin_write_sound s p w f e c x.stage x.e x.c h.task h.written h.read h.moved met.sound met.found (hand_there s now p w x h met) (permit_ok row new y ok) g s.done refl refl refl (λ q. refl) in
+    let kept' : IsSound (record s { pools = front p y s.pools; hands = slice_set s.hands w g; disk = disk }) =
+        subst (λ d. IsSound (record s { pools = front p y s.pools; hands = slice_set s.hands w g; disk = d })) (sym home)
+        (subst (λ z. IsSound (record s { pools = front p z s.pools; hands = slice_set s.hands w g; disk = s.disk })) (permit_gives row new y ok) kept) in
+    subst (λ n. IsSound (record n { pools = front p y n.pools; hands = slice_set n.hands w g; disk = disk })) met.view kept'
+
+pub unpin_write_follows_done : (s now : Core) (p w : ℕ) (f : Form) (e c : ℕ) (x y : Pool) (h : Hand) → Met s now p w x h → permit (Rows.unpin_write_row s.limit (under_sum s.pools) x h p f e c) (Rows.inserted f e c) ≡ Ok y → h.task ≡ Some p →
+    (t : Core) → t ≡ record now { pools = front p y now.pools; hands = slice_set now.hands w (record h { written = None; task = None }); done = now.done ++ p ∷ [] } → Follows (unpin_write_step now w p f e c) now (Ok tt) t
+unpin_write_follows_done s now p w f e c x y h met ok task t is =
+    let hand = hand_is s now p w x h met in let found = met.found in
+    let mine : holds h.task p ≡ true = ap (λ o. holds o p) task ∙ number_itself p in
+    let step : unpin_write_step s w p f e c ≡ Ok (record s { pools = front p y s.pools; hands = slice_set s.hands w (record h { written = None; task = None }); done = s.done ++ p ∷ [] }) = rw (found, hand, ok, mine) refl in
+    let here : (u : Core) → u ≡ record s { pools = front p y s.pools; hands = slice_set s.hands w (record h { written = None; task = None }); done = s.done ++ p ∷ [] } → Follows (unpin_write_step s w p f e c) s (Ok tt) u = λ u k. rw step (refl, k) in
+    subst (λ n. (u : Core) → u ≡ record n { pools = front p y n.pools; hands = slice_set n.hands w (record h { written = None; task = None }); done = n.done ++ p ∷ [] } → Follows (unpin_write_step n w p f e c) n (Ok tt) u) met.view here t is
+
+pub unpin_write_follows_other : (s now : Core) (p w : ℕ) (f : Form) (e c : ℕ) (x y : Pool) (h : Hand) → Met s now p w x h → permit (Rows.unpin_write_row s.limit (under_sum s.pools) x h p f e c) (Rows.inserted f e c) ≡ Ok y → (h.task ≡ Some p → ⊥) →
+    (disk : Option ℕ) → disk ≡ s.disk → (t : Core) → t ≡ record now { pools = front p y now.pools; hands = slice_set now.hands w (record h { written = None }); disk = disk } → Follows (unpin_write_step now w p f e c) now (Ok tt) t
+unpin_write_follows_other s now p w f e c x y h met ok task disk home t is =
+    let hand = hand_is s now p w x h met in let found = met.found in
+    let other : holds h.task p ≡ false = (elim (holds h.task p) as (λ b. holds h.task p ≡ b → b ≡ false) [ true ↦ λ k. absurd (task (holds_is h.task p k)) | false ↦ λ k. refl ]) refl in
+    let step : unpin_write_step s w p f e c ≡ Ok (record s { pools = front p y s.pools; hands = slice_set s.hands w (record h { written = None }); disk = disk }) = rw (found, hand, ok, other, home) refl in
+    let here : (u : Core) → u ≡ record s { pools = front p y s.pools; hands = slice_set s.hands w (record h { written = None }); disk = disk } → Follows (unpin_write_step s w p f e c) s (Ok tt) u = λ u k. rw step (refl, k) in
+    subst (λ n. (u : Core) → u ≡ record n { pools = front p y n.pools; hands = slice_set n.hands w (record h { written = None }); disk = disk } → Follows (unpin_write_step n w p f e c) n (Ok tt) u) met.view here t is
+
+pub unpin_write_refused : (s now : Core) (p w : ℕ) (f : Form) (e c : ℕ) (x : Pool) (h : Hand) (r : Refusal) → Met s now p w x h → permit (Rows.unpin_write_row s.limit (under_sum s.pools) x h p f e c) (Rows.inserted f e c) ≡ Err r →
+    (answer : Result (Unit {0}) Refusal) → answer ≡ Err r → Follows (unpin_write_step now w p f e c) now answer now
+unpin_write_refused s now p w f e c x h r met ok answer is =
+    let hand = hand_is s now p w x h met in let found = met.found in
+    let step : unpin_write_step s w p f e c ≡ Err r = rw (found, hand, ok) refl in
+    let here : Follows (unpin_write_step s w p f e c) s answer s = rw step (is, refl) in
+    subst (λ n. Follows (unpin_write_step n w p f e c) n answer n) met.view here
