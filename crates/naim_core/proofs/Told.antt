@@ -1,5 +1,6 @@
 -- Each event on a pool, told of the state that contracts see.
 use Rattle.std.proofs.Common.{◌≡◌, ℕ, ◌+◌, ◌*◌, ◌<◌, ◌≤◌, ◌^◌, Bool, true, false, nat_eq, List, [], ◌∷◌, ◌++◌, sum_by, length, get_or, Option, Some, None, IsSome, Ok, Err, Result, refl, sym, ap, subst, arith, ◌∙◌}
+use Rattle.std.specs.Option.{option_eq}
 use Rattle.std.specs.Cmp.{nat_eq_equiv}
 use Rattle.std.proofs.lemmas.List.Sums.{sum_by-append, sum_by-cons}
 use Rattle.std.specs.Prelude.{count_by, is_some, if◌then◌else◌}
@@ -19,7 +20,7 @@ use Rattle.naim_core.specs.declared.pool.Stage.TheVariants as stage
 use Rattle.naim_core.specs.declared.state.Hand.{Hand}
 use Rattle.naim_core.proofs.Events.{permit_gives, permit_ok, pin_read_sound, pin_write_sound, reload_begin_sound, reload_end_sound, unpin_read_sound, compact_begin_sound, compact_end_sound, offload_begin_sound, offload_end_sound, unpin_write_sound, holds_is}
 use Rattle.naim_core.proofs.Keeps.{one}
-use Rattle.naim_core.proofs.Maps.{number_itself}
+use Rattle.naim_core.proofs.Maps.{number_itself, same_number}
 
 -- the pool p and the hand of the worker w, as they were read in the state s; contracts see s as now
 pub record Met (s now : Core) (p w : ℕ) (x : Pool) (h : Hand) : Type 0 where
@@ -335,3 +336,11 @@ unpin_write_refused s now p w f e c x h r met ok answer is =
     let step : unpin_write_step s w p f e c ≡ Err r = rw (found, hand, ok) refl in
     let here : Follows (unpin_write_step s w p f e c) s answer s = rw step (is, refl) in
     subst (λ n. Follows (unpin_write_step n w p f e c) n answer n) met.view here
+
+-- the test whether a place is p
+pub eq_some : (o : Option ℕ) (p : ℕ) → true ≡ option_eq nat_eq o (Some p) → o ≡ Some p
+eq_some None p h = cc
+eq_some (Some q) p h = ap (λ k. Some k) (same_number q p (sym h))
+
+pub ne_some : (o : Option ℕ) (p : ℕ) → false ≡ option_eq nat_eq o (Some p) → o ≡ Some p → ⊥
+ne_some o p h e = let k : option_eq nat_eq o (Some p) ≡ true = ap (λ v. option_eq nat_eq v (Some p)) e ∙ number_itself p in cc
