@@ -1,5 +1,5 @@
 -- The paging step: what each event makes of a state, or why it is refused.
-use Rattle.std.specs.Prelude.{◌≡◌, ℕ, Bool, true, false, nat_eq, List, [], ◌∷◌, ◌++◌, length, drop, Option, Some, None, slice_get, slice_set, Result, Ok, Err, MatchResult, is_some, if◌then◌else◌}
+use Rattle.std.specs.Prelude.{◌≡◌, ◌<◌, ℕ, Bool, true, false, nat_eq, List, [], ◌∷◌, ◌++◌, length, drop, Option, Some, None, slice_get, slice_set, Result, Ok, Err, MatchResult, is_some, if◌then◌else◌}
 use Rattle.std.specs.Option.{option_map_or}
 use Rattle.std.specs.Map.{remove_entry, set_value}
 use Rattle.naim_core.specs.Charges.{under_sum}
@@ -159,6 +159,22 @@ step_running s (event.Fail w f) = Ok (failed s f)
 abbrev pub step_of : Core → Event → Result Core Refusal
 step_of s (event.Fail w f) = Ok (failed s f)
 step_of s e = if is_some s.failure then Err Stopped else step_running s e
+
+-- the worker that the event names, if it names one, is below their number
+abbrev pub NamesWorker : ℕ → Event → Type 0
+NamesWorker workers (event.Claim w) = w < workers
+NamesWorker workers (event.PinRead w p) = w < workers
+NamesWorker workers (event.PinWrite w p room) = w < workers
+NamesWorker workers (event.ReloadBegin w p m) = w < workers
+NamesWorker workers (event.ReloadEnd w p) = w < workers
+NamesWorker workers (event.UnpinRead w p f) = w < workers
+NamesWorker workers (event.UnpinWrite w p f e c) = w < workers
+NamesWorker workers (event.CompactBegin w p wanted) = w < workers
+NamesWorker workers (event.CompactEnd w p) = w < workers
+NamesWorker workers (event.OffloadBegin w p wanted) = w < workers
+NamesWorker workers (event.OffloadEnd w p) = w < workers
+NamesWorker workers (event.Fail w f) = w < workers
+NamesWorker workers _ = Unit {0}
 
 -- The answer and the new state are the step's, and a refusal leaves the state as it was.
 abbrev pub Follows : Result Core Refusal → Core → Result (Unit {0}) Refusal → Core → Type 0

@@ -8,6 +8,7 @@
 mod checks;
 mod event;
 mod pool;
+mod scratch;
 mod state;
 mod table;
 

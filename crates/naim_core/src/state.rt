@@ -1,13 +1,16 @@
 //! The state and its events.
-ghost use Rattle.std.specs.Prelude.{◌≡◌, ◌<◌, ◌≤◌, ◌^◌, ◌++◌, ◌∷◌, [], length, slice_set, IfOk, IsSome, Some, None};
+ghost use Rattle.std.specs.Prelude.{◌≡◌, ◌+◌, ◌<◌, ◌≤◌, ◌^◌, ◌++◌, ◌∷◌, [], length, slice_get, slice_set, option_map, option_copied, is_none, IfOk, IsSome, Some, None};
+ghost use Rattle.std.specs.List.{list_any, list_all};
+ghost use Rattle.naim_core.specs.Charges.{under_sum, held_sum};
 ghost use Rattle.naim_core.specs.Sound.{IsSound};
-ghost use Rattle.naim_core.specs.State.{start, pool_at, hand_at};
-ghost use Rattle.naim_core.specs.Steps.{front, in_place, take_pin, failed, Follows, insert_step, remove_step, claim_step, pin_read_step, pin_write_step, reload_begin_step, reload_end_step, unpin_read_step, unpin_write_step, compact_begin_step, compact_end_step, offload_begin_step, offload_end_step};
+ghost use Rattle.naim_core.specs.State.{start, pool_at, hand_at, has_repeat, is_empty_hand, record_place, victim, view_of};
+ghost use Rattle.naim_core.specs.Steps.{front, in_place, take_pin, failed, Follows, NamesWorker, step_of, begin_wave_step, end_wave_step, insert_step, remove_step, claim_step, pin_read_step, pin_write_step, reload_begin_step, reload_end_step, unpin_read_step, unpin_write_step, compact_begin_step, compact_end_step, offload_begin_step, offload_end_step};
 
 use crate::checks;
 use crate::event::{Event, Failure, Form, Mode, Refusal};
 use crate::pool::{Pool, PoolView, Stage};
-use crate::table::{SLOTS, Table};
+use crate::scratch::Scratch;
+use crate::table::Table;
 use hlo_num::Seq;
 use std::alloc::{AllocError, Global};
 use std::marker::Model;
@@ -30,10 +33,11 @@ pub struct CoreState {
     pools: Table,
     hands: Vec<Hand>,
     in_wave: bool,
-    tasks: Seq<u32>,
+    tasks: Vec<u32>,
     /// How many tasks were claimed.
     next: usize,
     done: Vec<u32>,
+    scratch: Scratch,
     /// The worker that has the disk.
     disk: Option<u32>,
     failure: Option<Failure>,
@@ -53,7 +57,25 @@ impl Model for CoreState {
     ghost invariant = { λ s. IsSound (core_of s) × IsKept (core_of s) s.next (vec_capacity s.done) };
 }
 
+/// A hand that holds nothing.
+const EMPTY: Hand = Hand {
+    task: None,
+    written: None,
+    read: None,
+    moved: None,
+};
+
+/// The largest limit, 2^30 bytes.
+const MAX_LIMIT: u64 = 1 << 30;
+
 impl Hand {
+    /// Whether it holds nothing.
+    fn is_empty(self) -> bool
+        ensures { result ≡ is_empty_hand self }
+    {
+        self.task.is_none() && self.written.is_none() && self.read.is_none() && self.moved.is_none()
+    }
+
     /// The hand with the pool in the moved place and in that of the pin.
     fn with_pin(self, mode: Mode, pid: u32) -> Hand
         ensures { result ≡ take_pin mode pid self }
@@ -343,7 +365,7 @@ impl CoreState {
         if hand.task.is_some() {
             return Err(Refusal::HandFull);
         }
-        let Some(task) = self.tasks.as_slice().get(self.next).copied() else {
+        let Some(task) = self.tasks.get(self.next).copied() else {
             return Err(Refusal::NoTask);
         };
         self.next += 1;
@@ -361,5 +383,222 @@ impl CoreState {
         if self.failure.is_none() {
             self.failure = Some(failure);
         }
+    }
+
+    /// Whether no hand holds anything. It goes over the hands.
+    fn hands_are_empty(&self) -> bool
+        ensures { result ≡ list_all is_empty_hand self.now.hands }
+    {
+        self.hands.iter().all(|hand| hand.is_empty())
+    }
+
+    /// Whether some task stands twice, where all of them are present.
+    fn has_repeat(&mut self, tasks: &[u32]) -> bool
+        requires { list_any (λ t. is_none (pool_at self.old.pools t)) tasks.now ≡ false }
+        ensures same { self.new ≡ self.old }
+        ensures value { result ≡ has_repeat tasks.now }
+    {
+        tasks.len() > 4096 || self.scratch.has_repeat(tasks)
+    }
+
+    /// A wave with these tasks.
+    fn begin_wave(&mut self, tasks: Seq<u32>) -> Result<(), Refusal>
+        ensures { Follows (begin_wave_step self.old tasks) self.old result self.new }
+    {
+        if self.pools.misses_any(tasks.as_slice()) {
+            return Err(Refusal::Absent);
+        }
+        if self.has_repeat(tasks.as_slice()) {
+            return Err(Refusal::Present);
+        }
+        if self.in_wave || !self.hands_are_empty() {
+            return Err(Refusal::InUse);
+        }
+        self.in_wave = true;
+        self.tasks = tasks.into_vec();
+        self.next = 0;
+        self.done.clear();
+        Ok(())
+    }
+
+    /// The wave is over.
+    fn end_wave(&mut self) -> Result<(), Refusal>
+        ensures { Follows (end_wave_step self.old) self.old result self.new }
+    {
+        if !self.in_wave {
+            return Err(Refusal::NoTask);
+        }
+        if !self.hands_are_empty() || self.done.len() < self.tasks.len() {
+            return Err(Refusal::InUse);
+        }
+        self.in_wave = false;
+        self.tasks.clear();
+        self.next = 0;
+        self.done.clear();
+        Ok(())
+    }
+
+    /// No pools, empty hands, no wave and the disk at home. It reserves all that the state ever takes:
+    /// 4,096 slots, and an index of PIDs. No later call takes memory.
+    pub fn new(alloc: Global, limit: u64, workers: u32) -> Result<CoreState, AllocError>
+        requires limit { limit ≤ 2 ^ 30 }
+        requires some_worker { 0 < workers }
+        requires few_workers { workers ≤ 64 }
+        ensures { IfOk result (λ s. s ≡ start limit workers) }
+    {
+        let pools = Table::new(alloc)?;
+        let hands = vec![in alloc; EMPTY; workers as usize]?;
+        let done = Vec::with_capacity(alloc, 4096)?;
+        let scratch = Scratch::new(alloc)?;
+        Ok(CoreState {
+            limit,
+            pools,
+            hands,
+            in_wave: false,
+            tasks: Vec::new(alloc),
+            next: 0,
+            done,
+            scratch,
+            disk: None,
+            failure: None,
+        })
+    }
+
+    /// Takes the event, or refuses it and changes nothing. It takes no memory, and a time that does not
+    /// grow with the number of pools, but for `BeginWave`, which sorts its tasks, and for `CompactBegin`
+    /// and `OffloadBegin`, which look for the victim as [`CoreState::victim`] does.
+    ///
+    /// After every event, taken or refused, the state is sound.
+    pub fn step(&mut self, event: Event) -> Result<(), Refusal>
+        requires { NamesWorker (length self.old.hands) event }
+        ensures means { Follows (step_of self.old event) self.old result self.new }
+        ensures sound { IsSound self.new }
+    {
+        let fails = matches!(event, Event::Fail { .. });
+        if !fails && self.failure.is_some() {
+            prove!(self.limit <= MAX_LIMIT);
+            return Err(Refusal::Stopped);
+        }
+        let answer = match event {
+            Event::Insert { pid, form, e, c } => self.insert(pid, form, e, c),
+            Event::Remove { pid } => self.remove(pid),
+            Event::BeginWave { tasks } => self.begin_wave(tasks),
+            Event::EndWave => self.end_wave(),
+            Event::Claim { worker } => self.claim(worker),
+            Event::PinRead { worker, pid } => self.pin_read(worker, pid),
+            Event::PinWrite { worker, pid, room } => self.pin_write(worker, pid, room),
+            Event::ReloadBegin { worker, pid, mode } => self.reload_begin(worker, pid, mode),
+            Event::ReloadEnd { worker, pid } => self.reload_end(worker, pid),
+            Event::UnpinRead { worker, pid, form } => self.unpin_read(worker, pid, form),
+            Event::UnpinWrite {
+                worker,
+                pid,
+                form,
+                e,
+                c,
+            } => self.unpin_write(worker, pid, form, e, c),
+            Event::CompactBegin {
+                worker,
+                pid,
+                wanted,
+            } => self.compact_begin(worker, pid, wanted),
+            Event::CompactEnd { worker, pid } => self.compact_end(worker, pid),
+            Event::OffloadBegin {
+                worker,
+                pid,
+                wanted,
+            } => self.offload_begin(worker, pid, wanted),
+            Event::OffloadEnd { worker, pid } => self.offload_end(worker, pid),
+            Event::Fail { failure, .. } => {
+                self.fail(failure);
+                Ok(())
+            }
+        };
+        prove!(self.limit <= MAX_LIMIT);
+        answer
+    }
+
+    /// The bytes that count against the limit, over all pools. Constant time.
+    pub fn under(&self) -> u64
+        ensures value { result ≡ under_sum self.now.pools }
+        ensures within { result ≤ self.now.limit }
+    {
+        self.pools.under()
+    }
+
+    /// The bytes that count against the limit and those that workers hold, over all pools. Constant time.
+    pub fn charged(&self) -> u64
+        ensures value { result ≡ under_sum self.now.pools + held_sum self.now.pools }
+        ensures within { result ≤ self.now.limit + held_sum self.now.pools }
+    {
+        self.pools.under() + self.pools.held()
+    }
+
+    /// How many pools there are. Constant time.
+    pub fn used(&self) -> u32
+        ensures { result ≡ length self.now.pools }
+    {
+        self.pools.len()
+    }
+
+    /// Whether no worker has the disk. Constant time.
+    pub fn disk_home(&self) -> bool
+        ensures { result ≡ is_none self.now.disk }
+    {
+        self.disk.is_none()
+    }
+
+    /// What is told of the pool; `None` exactly where it is absent. Constant time for a PID below
+    /// 131,072; for another one it goes over the slots.
+    pub fn pool(&self, pid: u32) -> Option<PoolView>
+        ensures { result ≡ option_map view_of (pool_at self.now.pools pid) }
+    {
+        let pool = self.pools.get(pid)?;
+        Some(pool.view())
+    }
+
+    /// Where the pool's record lies; `None` exactly where the pool is neither offloaded nor on its way
+    /// to or from the disk. It costs what [`CoreState::pool`] does.
+    pub fn place(&self, pid: u32) -> Option<u64>
+        ensures { result ≡ record_place self.now pid }
+    {
+        let pool = self.pools.get(pid)?;
+        if pool.stage.has_record() {
+            Some(u64::from(pid) * self.limit)
+        } else {
+            None
+        }
+    }
+
+    /// The pool that is to leave next: the free expanded one that is last in the use order, or, where
+    /// there is none, the compacted one that is last. `None` exactly where there is neither. It goes
+    /// over the slots from the end of the use order to that free pool, or over all where none is free.
+    pub fn victim(&self) -> Option<u32>
+        ensures { result ≡ victim self.now.pools }
+    {
+        self.pools.victim()
+    }
+
+    /// The task in the worker's hand; `None` exactly where there is none. Constant time.
+    pub fn task(&self, worker: u32) -> Option<u32>
+        requires { worker < length self.now.hands }
+        ensures { result ≡ (hand_at self.now.hands worker).task }
+    {
+        self.hands[worker as usize].task
+    }
+
+    /// The first unclaimed task, which `Claim` gives to a worker without a task, a kept failure left
+    /// aside; `None` exactly where there is none. Constant time.
+    pub fn next_task(&self) -> Option<u32>
+        ensures { result ≡ slice_get self.now.unclaimed 0 }
+    {
+        self.tasks.get(self.next).copied()
+    }
+
+    /// The failure that is kept; `None` exactly where there is none. Constant time.
+    pub fn failure(&self) -> Option<&Failure>
+        ensures { option_copied result ≡ self.now.failure }
+    {
+        self.failure.as_ref()
     }
 }

@@ -1,5 +1,6 @@
 //! The pools in their use order.
-ghost use Rattle.std.specs.Prelude.{◌≡◌, ◌+◌, ◌<◌, ◌≤◌, ◌^◌, ◌∷◌, [], nat_eq, length, slice_set, None, IsSome, IfOk};
+ghost use Rattle.std.specs.Prelude.{◌≡◌, ◌+◌, ◌<◌, ◌≤◌, ◌^◌, ◌∷◌, [], nat_eq, length, slice_set, is_none, None, IsSome, IfOk};
+ghost use Rattle.std.specs.List.{list_any};
 ghost use Rattle.std.specs.Map.{remove_entry};
 ghost use Rattle.naim_core.specs.Charges.{under_sum, held_sum, under_part, held_part};
 ghost use Rattle.naim_core.specs.State.{pool_at, victim};
@@ -134,6 +135,13 @@ impl Table {
     {
         let (_, pool) = found_at(&self.order, self.index.as_slice(), pid)?;
         Some(pool)
+    }
+
+    /// Whether some of these pools is absent.
+    pub(crate) fn misses_any(&self, pids: &[u32]) -> bool
+        ensures { result ≡ list_any (λ p. is_none (pool_at self.now p)) pids.now }
+    {
+        pids.iter().any(|pid| self.get(*pid).is_none())
     }
 
     /// The bytes that count against the limit.
