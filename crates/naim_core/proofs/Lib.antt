@@ -1,4 +1,5 @@
 pub mod Bounds
+pub mod Cuts
 pub mod Events
 pub mod Fresh
 pub mod Keeps
@@ -6,6 +7,7 @@ pub mod Kept
 pub mod Maps
 pub mod Told
 pub mod Places
+pub mod Repeat
 pub mod Tables
 pub mod Walks
 pub mod Waves

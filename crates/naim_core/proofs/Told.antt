@@ -344,3 +344,14 @@ eq_some (Some q) p h = ap (λ k. Some k) (same_number q p (sym h))
 
 pub ne_some : (o : Option ℕ) (p : ℕ) → false ≡ option_eq nat_eq o (Some p) → o ≡ Some p → ⊥
 ne_some o p h e = let k : option_eq nat_eq o (Some p) ≡ true = ap (λ v. option_eq nat_eq v (Some p)) e ∙ number_itself p in cc
+
+-- a hand that was read
+pub read_hand : (hands : List Hand) (w : ℕ) (h : Hand) → w < length hands → h ≡ get_or hands w h → slice_get hands w ≡ Some h
+read_hand hands w h below is = slice_get_read hands (length hands) w h refl below is
+
+pub read_hand_at : (hands : List Hand) (w : ℕ) (h : Hand) → w < length hands → h ≡ get_or hands w h → hand_at hands w ≡ h
+read_hand_at hands w h below is = unwrap_or-slice_get hands w empty_hand ∙ get_or_from_slice_get hands w h empty_hand (read_hand hands w h below is)
+
+pub none_of : (o : Option ℕ) → false ≡ is_some o → o ≡ None
+none_of None h = refl
+none_of (Some x) h = cc

@@ -84,7 +84,7 @@ claim_sound s w t rest h sound at none next = let g : Hand = record h { task = S
   no_tasks = sound.no_tasks;
 }
 
-empty_parts : (h : Hand) → is_empty_hand h ≡ true → (h.task ≡ None) × (h.written ≡ None)
+pub empty_parts : (h : Hand) → is_empty_hand h ≡ true → (h.task ≡ None) × (h.written ≡ None)
 empty_parts h e = parts h.task h.written h.read h.moved e
     where
       parts : (t wr r m : Option ℕ) → (is_none t && is_none wr && is_none r && is_none m) ≡ true → (t ≡ None) × (wr ≡ None)
@@ -92,23 +92,21 @@ empty_parts h e = parts h.task h.written h.read h.moved e
       parts (Some t) wr r m k = absurd (true≢false (sym k))
       parts None (Some wr) r m k = absurd (true≢false (sym k))
 
-no_task_held : (hands : List Hand) → list_all is_empty_hand hands ≡ true → (q : ℕ) → hands_with (λ h. h.task) hands q ≡ 0
+pub no_task_held : (hands : List Hand) → list_all is_empty_hand hands ≡ true → (q : ℕ) → hands_with (λ h. h.task) hands q ≡ 0
 no_task_held [] e q = refl
 no_task_held (h ∷ hands) e q = (elim (is_empty_hand h) as (λ b. is_empty_hand h ≡ b → (b && list_all is_empty_hand hands) ≡ true → hands_with (λ h. h.task) (h ∷ hands) q ≡ 0) [
   | true ↦ λ t k. let c = sum_by-cons (λ l. one (holds l.task q)) h hands in let n : one (holds h.task q) ≡ 0 = ap (λ o. one (holds o q)) (empty_parts h t).0 in let r = no_task_held hands k q in omega arith
   | false ↦ λ t k. absurd (true≢false (sym k))
 ]) refl e
 
+both_hold : (a b : Bool) → (a && b) ≡ true → (a ≡ true) × (b ≡ true)
+both_hold true b e = (refl, e)
+both_hold false b e = cc
+
 none_written : (hands : List Hand) → list_all is_empty_hand hands ≡ true → (w : ℕ) (h : Hand) → slice_get hands w ≡ Some h → h.written ≡ None
 none_written [] e w h at = cc
-none_written (g ∷ hands) e w h at = (elim (is_empty_hand g) as (λ b. is_empty_hand g ≡ b → (b && list_all is_empty_hand hands) ≡ true → h.written ≡ None) [
-  | true ↦ λ t k. by_place w t k at
-  | false ↦ λ t k. absurd (true≢false (sym k))
-]) refl e
-    where
-      by_place : (w : ℕ) → is_empty_hand g ≡ true → list_all is_empty_hand hands ≡ true → slice_get (g ∷ hands) w ≡ Some h → h.written ≡ None
-      by_place zero t k here = ap (λ l. l.written) (sym (same_Some g h here)) ∙ (empty_parts g t).1
-      by_place (suc n) t k here = none_written hands k n h here
+none_written (g ∷ hands) e zero h at = let both = both_hold (is_empty_hand g) (list_all is_empty_hand hands) e in ap (λ l. l.written) (sym (same_Some g h at)) ∙ (empty_parts g both.0).1
+none_written (g ∷ hands) e (suc n) h at = let both = both_hold (is_empty_hand g) (list_all is_empty_hand hands) e in none_written hands both.1 n h at
 
 -- no number stands twice
 pub distinct_of : (ts : List ℕ) → has_repeat ts ≡ false → IsDistinct nat_eq ts
@@ -122,7 +120,7 @@ distinct_of (t ∷ ts) h = let both = both_false (is_in t ts) (has_repeat ts) h 
       apart_all t [] h = tt
       apart_all t (y ∷ ts) h = let both = both_false (nat_eq t y) (is_in t ts) h in (both.0, apart_all t ts both.1)
 
-all_present : (s : Core) (ts : List ℕ) → list_any (λ t. is_none (pool_at s.pools t)) ts ≡ false → (t : ℕ) → is_in t ts ≡ true → IsSome (pool_at s.pools t)
+pub all_present : (s : Core) (ts : List ℕ) → list_any (λ t. is_none (pool_at s.pools t)) ts ≡ false → (t : ℕ) → is_in t ts ≡ true → IsSome (pool_at s.pools t)
 all_present s [] h t i = cc
 all_present s (y ∷ ts) h t i = (elim (nat_eq t y) as (λ b. nat_eq t y ≡ b → (b || is_in t ts) ≡ true → IsSome (pool_at s.pools t)) [
   | true ↦ λ e k. subst (λ q. IsSome (pool_at s.pools q)) (sym (same_number t y e)) (some_of (pool_at s.pools y) (either (is_none (pool_at s.pools y)) _ h).0)

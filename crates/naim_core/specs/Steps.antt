@@ -1,5 +1,5 @@
 -- The paging step: what each event makes of a state, or why it is refused.
-use Rattle.std.specs.Prelude.{◌≡◌, ◌<◌, ℕ, Bool, true, false, nat_eq, List, [], ◌∷◌, ◌++◌, length, drop, Option, Some, None, slice_get, slice_set, Result, Ok, Err, MatchResult, is_some, if◌then◌else◌}
+use Rattle.std.specs.Prelude.{◌≡◌, ◌<◌, ℕ, Bool, true, false, nat_eq, List, [], ◌∷◌, ◌++◌, length, drop, Option, Some, None, slice_get, slice_set, Result, Ok, Err, MatchResult, is_some, ◌&&◌, not, if◌then◌else◌}
 use Rattle.std.specs.Option.{option_map_or}
 use Rattle.std.specs.Map.{remove_entry, set_value}
 use Rattle.naim_core.specs.Charges.{under_sum}
@@ -155,10 +155,14 @@ step_running s (event.OffloadBegin w p wanted) = offload_begin_step s w p wanted
 step_running s (event.OffloadEnd w p) = offload_end_step s w p
 step_running s (event.Fail w f) = Ok (failed s f)
 
+-- whether the event tells a failure
+abbrev pub is_fail : Event → Bool
+is_fail (event.Fail w f) = true
+is_fail _ = false
+
 -- `Fail` is always allowed; once a failure is kept, nothing else is
 abbrev pub step_of : Core → Event → Result Core Refusal
-step_of s (event.Fail w f) = Ok (failed s f)
-step_of s e = if is_some s.failure then Err Stopped else step_running s e
+step_of s e = if is_some s.failure && not (is_fail e) then Err Stopped else step_running s e
 
 -- the worker that the event names, if it names one, is below their number
 abbrev pub NamesWorker : ℕ → Event → Type 0

@@ -1,4 +1,6 @@
 //! The events, and why one is refused.
+ghost use Rattle.std.specs.Prelude.{◌≡◌};
+ghost use Rattle.naim_core.specs.Steps.{is_fail};
 
 use hlo_num::Seq;
 
@@ -52,6 +54,15 @@ pub enum Event {
     OffloadEnd { worker: u32, pid: u32 },
     /// The worker tells a failure. The first one is kept, and no event but `Fail` follows.
     Fail { worker: u32, failure: Failure },
+}
+
+impl Event {
+    /// Whether it tells a failure.
+    pub(crate) fn is_fail(&self) -> bool
+        ensures { result ≡ is_fail self.now }
+    {
+        matches!(self, Event::Fail { .. })
+    }
 }
 
 /// Why an event is refused, in the order in which the parts of its row are tested.

@@ -1,10 +1,10 @@
 //! The state and its events.
-ghost use Rattle.std.specs.Prelude.{◌≡◌, ◌+◌, ◌<◌, ◌≤◌, ◌^◌, ◌++◌, ◌∷◌, [], length, slice_get, slice_set, option_map, option_copied, is_none, IfOk, IsSome, Some, None};
+ghost use Rattle.std.specs.Prelude.{◌≡◌, ◌+◌, ◌<◌, ◌≤◌, ◌^◌, ◌++◌, ◌∷◌, [], length, slice_get, slice_set, option_map, option_copied, false, is_none, IfOk, IsSome, Some, None};
 ghost use Rattle.std.specs.List.{list_any, list_all};
 ghost use Rattle.naim_core.specs.Charges.{under_sum, held_sum};
 ghost use Rattle.naim_core.specs.Sound.{IsSound};
 ghost use Rattle.naim_core.specs.State.{start, pool_at, hand_at, has_repeat, is_empty_hand, record_place, victim, view_of};
-ghost use Rattle.naim_core.specs.Steps.{front, in_place, take_pin, failed, Follows, NamesWorker, step_of, begin_wave_step, end_wave_step, insert_step, remove_step, claim_step, pin_read_step, pin_write_step, reload_begin_step, reload_end_step, unpin_read_step, unpin_write_step, compact_begin_step, compact_end_step, offload_begin_step, offload_end_step};
+ghost use Rattle.naim_core.specs.Steps.{front, in_place, take_pin, failed, Follows, NamesWorker, step_of, step_running, begin_wave_step, end_wave_step, insert_step, remove_step, claim_step, pin_read_step, pin_write_step, reload_begin_step, reload_end_step, unpin_read_step, unpin_write_step, compact_begin_step, compact_end_step, offload_begin_step, offload_end_step};
 
 use crate::checks;
 use crate::event::{Event, Failure, Form, Mode, Refusal};
@@ -349,7 +349,8 @@ impl CoreState {
         if pool.stage.is_moving() {
             return Err(Refusal::Moving);
         }
-        if pool.stage.is_pinned() || self.in_wave {
+        let in_wave = self.in_wave;
+        if pool.stage.is_pinned() || in_wave {
             return Err(Refusal::InUse);
         }
         self.pools.remove(pid);
@@ -365,9 +366,10 @@ impl CoreState {
         if hand.task.is_some() {
             return Err(Refusal::HandFull);
         }
-        let Some(task) = self.tasks.get(self.next).copied() else {
+        if self.next >= self.tasks.len() {
             return Err(Refusal::NoTask);
-        };
+        }
+        let task = self.tasks[self.next];
         self.next += 1;
         self.hands[worker as usize] = Hand {
             task: Some(task),
@@ -398,7 +400,10 @@ impl CoreState {
         ensures same { self.new ≡ self.old }
         ensures value { result ≡ has_repeat tasks.now }
     {
-        tasks.len() > 4096 || self.scratch.has_repeat(tasks)
+        if tasks.len() > 4096 {
+            return true;
+        }
+        self.scratch.has_repeat(tasks)
     }
 
     /// A wave with these tasks.
@@ -428,7 +433,10 @@ impl CoreState {
         if !self.in_wave {
             return Err(Refusal::NoTask);
         }
-        if !self.hands_are_empty() || self.done.len() < self.tasks.len() {
+        if !self.hands_are_empty() {
+            return Err(Refusal::InUse);
+        }
+        if self.done.len() < self.tasks.len() {
             return Err(Refusal::InUse);
         }
         self.in_wave = false;
@@ -464,22 +472,12 @@ impl CoreState {
         })
     }
 
-    /// Takes the event, or refuses it and changes nothing. It takes no memory, and a time that does not
-    /// grow with the number of pools, but for `BeginWave`, which sorts its tasks, and for `CompactBegin`
-    /// and `OffloadBegin`, which look for the victim as [`CoreState::victim`] does.
-    ///
-    /// After every event, taken or refused, the state is sound.
-    pub fn step(&mut self, event: Event) -> Result<(), Refusal>
+    /// An event where no failure is kept.
+    fn run(&mut self, event: Event) -> Result<(), Refusal>
         requires { NamesWorker (length self.old.hands) event }
-        ensures means { Follows (step_of self.old event) self.old result self.new }
-        ensures sound { IsSound self.new }
+        ensures { Follows (step_running self.old event) self.old result self.new }
     {
-        let fails = matches!(event, Event::Fail { .. });
-        if !fails && self.failure.is_some() {
-            prove!(self.limit <= MAX_LIMIT);
-            return Err(Refusal::Stopped);
-        }
-        let answer = match event {
+        match event {
             Event::Insert { pid, form, e, c } => self.insert(pid, form, e, c),
             Event::Remove { pid } => self.remove(pid),
             Event::BeginWave { tasks } => self.begin_wave(tasks),
@@ -513,6 +511,24 @@ impl CoreState {
                 self.fail(failure);
                 Ok(())
             }
+        }
+    }
+
+    /// Takes the event, or refuses it and changes nothing. It takes no memory, and a time that does not
+    /// grow with the number of pools, but for `BeginWave`, which sorts its tasks, and for `CompactBegin`
+    /// and `OffloadBegin`, which look for the victim as [`CoreState::victim`] does.
+    ///
+    /// After every event, taken or refused, the state is sound.
+    pub fn step(&mut self, event: Event) -> Result<(), Refusal>
+        requires { NamesWorker (length self.old.hands) event }
+        ensures means { Follows (step_of self.old event) self.old result self.new }
+        ensures sound { IsSound self.new }
+    {
+        let stops = self.failure.is_some() && !event.is_fail();
+        let answer = if stops {
+            Err(Refusal::Stopped)
+        } else {
+            self.run(event)
         };
         prove!(self.limit <= MAX_LIMIT);
         answer
