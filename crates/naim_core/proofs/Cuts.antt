@@ -14,6 +14,7 @@ use Rattle.naim_core.specs.Rows
 use Rattle.naim_core.specs.Sound.{hands_with, IsSound}
 use Rattle.naim_core.specs.State.{Core, IsKept, pool_at, hand_at, holds, is_in, is_empty_hand, has_repeat, empty_hand, start}
 use Rattle.naim_core.specs.Steps.{Follows, claim_step, begin_wave_step, end_wave_step}
+use Rattle.naim_core.specs.declared.event.Refusal.TheVariants.{InUse}
 use Rattle.naim_core.specs.declared.pool.Pool.{Pool}
 use Rattle.naim_core.specs.declared.state.Hand.{Hand}
 use Rattle.naim_core.proofs.Keeps.{one, count_set}
@@ -130,3 +131,20 @@ done_short s sound short = (elim (list_all (λ t. is_in t s.done) s.tasks) as (�
   | true ↦ λ e. let l = length-le_from_is_member nat_eq_equiv s.tasks s.done sound.tasks_differ (each_of (λ t. is_in t s.done) s.tasks e) in absurd (omega arith)
   | false ↦ λ e. refl
 ]) refl
+
+pub end_follows : (s now new : Core) → s ≡ now → s.in_wave ≡ true → list_all is_empty_hand s.hands ≡ true → list_all (λ t. is_in t s.done) s.tasks ≡ true →
+    new ≡ record s { in_wave = false; tasks = []; unclaimed = []; done = [] } → Follows (end_wave_step now) now (Ok tt) new
+end_follows s now new view open_now idle full is =
+    let step : end_wave_step s ≡ Ok (record s { in_wave = false; tasks = []; unclaimed = []; done = [] }) = rw (open_now, idle, full) refl in
+    let here : Follows (end_wave_step s) s (Ok tt) new = rw step (refl, is) in
+    subst (λ m. Follows (end_wave_step m) m (Ok tt) new) view here
+
+pub end_undone : (s now : Core) → s ≡ now → s.in_wave ≡ true → list_all (λ t. is_in t s.done) s.tasks ≡ false → Follows (end_wave_step now) now (Err InUse) now
+end_undone s now view open_now short =
+    let step : end_wave_step s ≡ Err InUse = rw (open_now, short) (by_hands (list_all is_empty_hand s.hands)) in
+    let here : Follows (end_wave_step s) s (Err InUse) s = rw step (refl, refl) in
+    subst (λ m. Follows (end_wave_step m) m (Err InUse) m) view here
+    where
+      by_hands : (b : Bool) → (if not b || true then Err InUse else Ok (record s { in_wave = false; tasks = []; unclaimed = []; done = [] })) ≡ Err InUse
+      by_hands true = refl
+      by_hands false = refl

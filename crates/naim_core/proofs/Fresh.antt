@@ -6,7 +6,13 @@ use Rattle.std.proofs.lemmas.List.{reverse-append, length-reverse, take_all}
 use Rattle.std.proofs.lemmas.Map.Keys.{IsDistinct-cons, IsDistinct-from_apart}
 use Rattle.std.proofs.lemmas.Option.{same_Some}
 use Rattle.lru.specs.LruCache.{put_entries}
+use Rattle.std.specs.Prelude.{count_by, is_some}
+use Rattle.std.proofs.lemmas.List.Sums.{sum_by-cons}
 use Rattle.naim_core.specs.Charges.{under_sum, held_sum}
+use Rattle.naim_core.specs.Sound.{IsSound, hands_with}
+use Rattle.naim_core.specs.State.{IsKept, start, empty_hand, holds}
+use Rattle.naim_core.specs.declared.state.Hand.{Hand}
+use Rattle.naim_core.proofs.Keeps.{one}
 use Rattle.naim_core.specs.Table.{Place, Order, pools_in, IsOrder, IsIndexed, IsSpare, IsTable}
 use Rattle.naim_core.proofs.Maps.{other_number, apart_number}
 
@@ -117,3 +123,33 @@ fresh_table n m room is fits = record {
 
 pub fresh_pools : (n : ℕ) → pools_in (empty_order n) ≡ []
 fresh_pools n = no_pools n
+
+nobody_holds : (place : Hand → Option ℕ) (n q : ℕ) → place empty_hand ≡ None → hands_with place (replicate n empty_hand) q ≡ 0
+nobody_holds place zero q none = refl
+nobody_holds place (suc n) q none = let c = sum_by-cons (λ h. one (holds (place h) q)) empty_hand (replicate n empty_hand) in let z : one (holds (place empty_hand) q) ≡ 0 = ap (λ o. one (holds o q)) none in let r = nobody_holds place n q none in omega arith
+
+no_task_count : (n : ℕ) → count_by (λ h. is_some h.task) (replicate n empty_hand) ≡ 0
+no_task_count zero = refl
+no_task_count (suc n) = let c = sum_by-cons (λ h. one (is_some h.task)) empty_hand (replicate n empty_hand) in let r = no_task_count n in let z : one (is_some empty_hand.task) ≡ 0 = refl in omega arith
+
+all_are_empty : (n w : ℕ) (h : Hand) → slice_get (replicate n empty_hand) w ≡ Some h → h ≡ empty_hand
+all_are_empty zero w h at = cc
+all_are_empty (suc n) zero h at = sym (same_Some empty_hand h at)
+all_are_empty (suc n) (suc w) h at = all_are_empty n w h at
+
+-- the state that `new` makes is sound
+pub fresh_sound : (limit n : ℕ) → IsSound (start limit n)
+fresh_sound limit n = record {
+  under_fits = omega arith; one_pool = nothing_differs; slots = omega arith; forms_fit = λ p x at. cc;
+  readers = λ p. nobody_holds (λ h. h.read) n p refl; writers = λ p. nobody_holds (λ h. h.written) n p refl; one_mover = λ p. nobody_holds (λ h. h.moved) n p refl;
+  pins_kept = λ w h at p x d m is. (let e : None ≡ Some p = sym (ap (λ k. k.moved) (all_are_empty n w h at)) ∙ m in cc);
+  one_disk_move = refl; tasks_differ = nothing_differs; tasks_present = λ t i. cc;
+  tasks_kept = λ t. (let z = nobody_holds (λ h. h.task) n t refl in let g : 0 + 0 + hands_with (λ h. h.task) (replicate n empty_hand) t ≡ 0 = omega arith in g);
+  own_task = λ i. cc; no_tasks = λ i. refl;
+}
+
+pub fresh_kept : (limit n room : ℕ) → limit ≤ 2 ^ 30 → 0 < n → n ≤ 64 → 4096 ≤ room → IsKept (start limit n) 0 room
+fresh_kept limit n room a b c d = record {
+  small_limit = a; some_worker = (let l = length-replicate n empty_hand in omega arith); few_workers = (let l = length-replicate n empty_hand in omega arith); cut = omega arith; room_fits = d;
+  counted = (let z = no_task_count n in let g : 0 + 0 + count_by (λ h. is_some h.task) (replicate n empty_hand) ≡ 0 = omega arith in g);
+}

@@ -1,0 +1,18 @@
+use Rattle.std.proofs.Common.{◌≡◌, ◌<◌, ◌≤◌, ◌+◌, ◌∷◌, [], length, Some, None, nat_eq, sym, ap, subst, ◌∙◌, refl, arith, rules, true, false}
+use Rattle.std.specs.Prelude.{is_some, is_none}
+use Rattle.std.specs.List.{list_any, list_all}
+use Rattle.std.specs.Map.{remove_entry}
+use Rattle.std.specs.Vec.{vec_capacity}
+use Rattle.naim_core.specs.Rows
+use Rattle.naim_core.specs.Charges.{under_sum}
+use Rattle.naim_core.specs.Sound.{IsSound}
+use Rattle.naim_core.specs.State.{pool_at, is_empty_hand, has_repeat, is_in}
+use Rattle.naim_core.specs.Steps.{permit, Follows, end_wave_step, begin_wave_step}
+use Rattle.naim_core.specs.View.{core_of}
+use Rattle.naim_core.proofs.Cuts.{repeat_of_many}
+use Rattle.naim_core.proofs.state.CoreState.has_repeat.Goals as goal
+
+pub returns-then-tasks-gt4096-clause-value : goal.returns-then-tasks-gt4096-clause-value
+returns-then-tasks-gt4096-clause-value c =
+    let absent = subst (λ n. list_any (λ t. is_none (pool_at n.pools t)) c.args.tasks.now ≡ false) (sym c.self.view_is) c.requires in
+    sym (repeat_of_many (core_of c.self.inside) c.args.tasks.now c.self.invariant.0 absent c.if-tasks-gt4096.true)
