@@ -64,10 +64,10 @@ kept_wave s next room room' ts b k more idle = record {
 }
 
 -- more tasks than pools, all present, are no different ones
-pub repeat_of_many : (s : Core) (ts : List ℕ) → IsSound s → list_any (λ t. is_none (pool_at s.pools t)) ts ≡ false → 4096 < length ts → has_repeat ts ≡ true
+pub repeat_of_many : (s : Core) (ts : List ℕ) → IsSound s → list_any (λ t. is_none (pool_at s.pools t)) ts ≡ false → length s.pools < length ts → has_repeat ts ≡ true
 repeat_of_many s ts sound present many = (elim (has_repeat ts) as (λ b. has_repeat ts ≡ b → b ≡ true) [
   | true ↦ λ e. refl
-  | false ↦ λ e. let l = length-le_from_keys nat_eq_equiv ts s.pools (distinct_of ts e) (all_present s ts present) in let n = sound.slots in absurd (omega arith)
+  | false ↦ λ e. let l = length-le_from_keys nat_eq_equiv ts s.pools (distinct_of ts e) (all_present s ts present) in absurd (omega arith)
 ]) refl
 
 -- a number that is counted stands in the list

@@ -2,7 +2,7 @@
 use Rattle.std.proofs.Common.{◌≡◌, ℕ, zero, suc, ◌+◌, ◌-◌, ◌<◌, ◌≤◌, ◌^◌, Bool, true, false, nat_eq, List, [], ◌∷◌, ◌++◌, reverse, take, replicate, length, Option, Some, None, refl, sym, ap, subst, arith, ◌∙◌, cond, length-append, add-one}
 use Rattle.std.specs.List.{IsDistinct, AllByRecursion, slice_get}
 use Rattle.std.specs.Map.{keys_of, lookup, lookup_entry}
-use Rattle.std.proofs.lemmas.List.{reverse-append, length-reverse, take_all}
+use Rattle.std.proofs.lemmas.List.{reverse-append, length-reverse, length-replicate, take_all}
 use Rattle.std.proofs.lemmas.Map.Keys.{IsDistinct-cons, IsDistinct-from_apart}
 use Rattle.std.proofs.lemmas.Option.{same_Some}
 use Rattle.lru.specs.LruCache.{put_entries}

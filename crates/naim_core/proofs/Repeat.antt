@@ -49,3 +49,9 @@ no_repeat_sorted xs sorted differ = no_repeat xs (IsDistinct-from_apart nat_eq x
     let up : (k : ℕ) → k + 1 < length xs → get_or xs k d < get_or xs (k + 1) d = λ k h. (let a = ge_from_not_lt (get_or xs (k + 1) d) (get_or xs k d) (sorted k d (omega arith) h) in let b = differ k d h in omega arith) in
     let e : i + (j - i - 1) + 1 ≡ j = omega arith in let r = rising xs d up i (j - i - 1) (omega arith) in
     let r' = rw e at r in other_number (get_or xs i d) (get_or xs j d) (λ s. omega arith)))
+
+-- the element at a place is one, whatever stands for those past the end
+pub any_default : (xs : List ℕ) (k d e : ℕ) → k < length xs → get_or xs k d ≡ get_or xs k e
+any_default [] k d e h = absurd (omega arith)
+any_default (x ∷ xs) zero d e h = refl
+any_default (x ∷ xs) (suc k) d e h = any_default xs k d e (omega arith)

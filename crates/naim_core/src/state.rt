@@ -400,7 +400,8 @@ impl CoreState {
         ensures same { self.new ≡ self.old }
         ensures value { result ≡ has_repeat tasks.now }
     {
-        if tasks.len() > 4096 {
+        let used = self.pools.len() as usize;
+        if used < tasks.len() {
             return true;
         }
         self.scratch.has_repeat(tasks)

@@ -1,0 +1,6 @@
+use Rattle.std.proofs.Common.{◌≡◌, ◌≢◌, ℕ, ◌+◌, ◌<◌, get_or}
+use Rattle.naim_core.proofs.scratch.has_equal_neighbours.Given as goal
+
+-- the neighbours below this place differ
+abbrev pub invariant-loop-i : goal.invariant-loop-i
+invariant-loop-i l = (k : ℕ) → k + 1 < l.i → get_or l.sorted k 0 ≢ get_or l.sorted (k + 1) 0
