@@ -5,3 +5,4 @@ pub mod State
 pub mod Steps
 pub mod Table
 pub mod View
+pub mod Runs

@@ -8,10 +8,12 @@
 mod checks;
 mod event;
 mod pool;
+mod history;
 mod scratch;
 mod state;
 mod table;
 
 pub use event::{Event, Failure, Form, Mode, Refusal};
 pub use pool::{Pool, PoolForm, PoolView, Stage};
+pub use history::replay;
 pub use state::{CoreState, Hand};

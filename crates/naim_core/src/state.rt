@@ -2,7 +2,7 @@
 ghost use Rattle.std.specs.Prelude.{◌≡◌, ◌+◌, ◌<◌, ◌≤◌, ◌^◌, ◌++◌, ◌∷◌, [], length, slice_get, slice_set, option_map, option_copied, false, is_none, IfOk, IsSome, Some, None};
 ghost use Rattle.std.specs.List.{list_any, list_all};
 ghost use Rattle.naim_core.specs.Charges.{under_sum, held_sum};
-ghost use Rattle.naim_core.specs.Sound.{IsSound};
+ghost use Rattle.naim_core.specs.Sound.{IsSound, RecordsApart};
 ghost use Rattle.naim_core.specs.State.{start, pool_at, hand_at, has_repeat, is_empty_hand, record_place, victim, view_of};
 ghost use Rattle.naim_core.specs.Steps.{front, in_place, take_pin, failed, Follows, NamesWorker, step_of, step_running, begin_wave_step, end_wave_step, insert_step, remove_step, claim_step, pin_read_step, pin_write_step, reload_begin_step, reload_end_step, unpin_read_step, unpin_write_step, compact_begin_step, compact_end_step, offload_begin_step, offload_end_step};
 
@@ -515,6 +515,17 @@ impl CoreState {
         }
     }
 
+    /// An event, which a kept failure stops.
+    fn take(&mut self, event: Event) -> Result<(), Refusal>
+        requires { NamesWorker (length self.old.hands) event }
+        ensures { Follows (step_of self.old event) self.old result self.new }
+    {
+        if self.failure.is_some() && !event.is_fail() {
+            return Err(Refusal::Stopped);
+        }
+        self.run(event)
+    }
+
     /// Takes the event, or refuses it and changes nothing. It takes no memory, and a time that does not
     /// grow with the number of pools, but for `BeginWave`, which sorts its tasks, and for `CompactBegin`
     /// and `OffloadBegin`, which look for the victim as [`CoreState::victim`] does.
@@ -524,13 +535,11 @@ impl CoreState {
         requires { NamesWorker (length self.old.hands) event }
         ensures means { Follows (step_of self.old event) self.old result self.new }
         ensures sound { IsSound self.new }
+        ensures apart { RecordsApart self.new }
+        ensures limit { self.new.limit ≡ self.old.limit }
+        ensures workers { length self.new.hands ≡ length self.old.hands }
     {
-        let stops = self.failure.is_some() && !event.is_fail();
-        let answer = if stops {
-            Err(Refusal::Stopped)
-        } else {
-            self.run(event)
-        };
+        let answer = self.take(event);
         prove!(self.limit <= MAX_LIMIT);
         answer
     }
