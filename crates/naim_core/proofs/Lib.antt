@@ -8,6 +8,7 @@ pub mod Maps
 pub mod Told
 pub mod Places
 pub mod Repeat
+pub mod Replays
 pub mod Same
 pub mod Tables
 pub mod Walks
