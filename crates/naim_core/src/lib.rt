@@ -12,6 +12,8 @@ mod history;
 mod scratch;
 mod state;
 mod table;
+#[cfg(test)]
+mod tests;
 
 pub use event::{Event, Failure, Form, Mode, Refusal};
 pub use pool::{Pool, PoolForm, PoolView, Stage};
