@@ -40,7 +40,7 @@ held_bound : (limit : ℕ) (es : List (ℕ × Pool)) → IsDistinct nat_eq (keys
 held_bound limit [] d fits = omega arith
 held_bound limit (e ∷ es) d fits =
     let rest = held_bound limit es (IsDistinct-tail nat_eq e.0 (keys_of es) d) (λ p x at. fits p x (let ne : nat_eq p e.0 ≡ false = other_number p e.0 (λ same.
-        let none = head_absent e.0 es d in let k : Some x ≡ None = sym at ∙ (ap (λ i. lookup (nat_eq i) es) same ∙ none) in cc) in rw ne at)) in
+    let none = head_absent e.0 es d in let k : Some x ≡ None = sym at ∙ (ap (λ i. lookup (nat_eq i) es) same ∙ none) in cc) in rw ne at)) in
     let here : held_part e.1 ≤ 2 ^ 42 = held_small limit e.1.stage e.1.e e.1.c (fits e.0 e.1 (rw (number_itself e.0) refl)) in
     let s = sum_by-cons held_part e.1 (values_of es) in
     let g : sum_by held_part (e.1 ∷ values_of es) ≤ length (e ∷ es) * 2 ^ 42 = omega arith in g

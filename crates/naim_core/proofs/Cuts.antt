@@ -59,7 +59,11 @@ no_tasks_held (h ∷ hands) e = (elim (is_empty_hand h) as (λ b. is_empty_hand 
 
 pub kept_wave : (s : Core) (next room room' : ℕ) (ts : List ℕ) (b : Bool) → IsKept s next room → room ≤ room' → list_all is_empty_hand s.hands ≡ true → IsKept (record s { in_wave = b; tasks = ts; unclaimed = ts; done = [] }) 0 room'
 kept_wave s next room room' ts b k more idle = record {
-  small_limit = k.small_limit; some_worker = k.some_worker; few_workers = k.few_workers; cut = omega arith; room_fits = (let r = k.room_fits in omega arith);
+  small_limit = k.small_limit;
+  some_worker = k.some_worker;
+  few_workers = k.few_workers;
+  cut = omega arith;
+  room_fits = (let r = k.room_fits in omega arith);
   counted = (let n = no_tasks_held s.hands idle in let g : length ts + 0 + count_by (λ h. is_some h.task) s.hands ≡ length ts = omega arith in g);
 }
 
@@ -88,14 +92,14 @@ in_counted t (x ∷ xs) h = (elim (nat_eq t x) as (λ b. nat_eq t x ≡ b → (b
 few_hold : (hands : List Hand) (t : ℕ) → hands_with (λ h. h.task) hands t ≤ count_by (λ h. is_some h.task) hands
 few_hold [] t = omega arith
 few_hold (h ∷ hands) t = let a = sum_by-cons (λ l. one (holds l.task t)) h hands in let b = sum_by-cons (λ l. one (is_some l.task)) h hands in let r = few_hold hands t in let z = one_place h.task t in omega arith
-    where
-      one_place : (o : Option ℕ) (t : ℕ) → one (holds o t) ≤ one (is_some o)
-      one_place None t = omega arith
-      one_place (Some q) t = at_most (holds (Some q) t)
-          where
-            at_most : (b : Bool) → one b ≤ 1
-            at_most true = omega arith
-            at_most false = omega arith
+  where
+    one_place : (o : Option ℕ) (t : ℕ) → one (holds o t) ≤ one (is_some o)
+    one_place None t = omega arith
+    one_place (Some q) t = at_most (holds (Some q) t)
+      where
+        at_most : (b : Bool) → one b ≤ 1
+        at_most true = omega arith
+        at_most false = omega arith
 
 no_list : (xs : List ℕ) → length xs ≡ 0 → xs ≡ []
 no_list [] h = refl
@@ -104,10 +108,10 @@ no_list (x ∷ xs) h = absurd (omega arith)
 all_of : (p : ℕ → Bool) (xs : List ℕ) → ((t : ℕ) → is_in t xs ≡ true → p t ≡ true) → list_all p xs ≡ true
 all_of p [] h = refl
 all_of p (x ∷ xs) h = rw (h x (rw (nat_eq_equiv.refl x) refl)) (all_of p xs (λ t i. h t (or_true (nat_eq t x) (is_in t xs) i)))
-    where
-      or_true : (a b : Bool) → b ≡ true → (a || b) ≡ true
-      or_true true b e = refl
-      or_true false b e = e
+  where
+    or_true : (a b : Bool) → b ≡ true → (a || b) ≡ true
+    or_true true b e = refl
+    or_true false b e = e
 
 each_of : (p : ℕ → Bool) (xs : List ℕ) → list_all p xs ≡ true → (t : ℕ) → is_in t xs ≡ true → p t ≡ true
 each_of p [] h t i = cc
@@ -115,10 +119,10 @@ each_of p (x ∷ xs) h t i = let both = both_true (p x) (list_all p xs) h in (el
   | true ↦ λ e k. ap p (same_number t x e) ∙ both.0
   | false ↦ λ e k. each_of p xs both.1 t k
 ]) refl i
-    where
-      both_true : (a b : Bool) → (a && b) ≡ true → (a ≡ true) × (b ≡ true)
-      both_true true b e = (refl, e)
-      both_true false b e = cc
+  where
+    both_true : (a b : Bool) → (a && b) ≡ true → (a ≡ true) × (b ≡ true)
+    both_true true b e = (refl, e)
+    both_true false b e = cc
 
 -- the tasks are done exactly where as many are
 pub done_all : (s : Core) (n room : ℕ) → IsSound s → IsKept s n room → length s.tasks ≤ length s.done → list_all (λ t. is_in t s.done) s.tasks ≡ true
@@ -144,7 +148,7 @@ end_undone s now view open_now short =
     let step : end_wave_step s ≡ Err InUse = rw (open_now, short) (by_hands (list_all is_empty_hand s.hands)) in
     let here : Follows (end_wave_step s) s (Err InUse) s = rw step (refl, refl) in
     subst (λ m. Follows (end_wave_step m) m (Err InUse) m) view here
-    where
-      by_hands : (b : Bool) → (if not b || true then Err InUse else Ok (record s { in_wave = false; tasks = []; unclaimed = []; done = [] })) ≡ Err InUse
-      by_hands true = refl
-      by_hands false = refl
+  where
+    by_hands : (b : Bool) → (if not b || true then Err InUse else Ok (record s { in_wave = false; tasks = []; unclaimed = []; done = [] })) ≡ Err InUse
+    by_hands true = refl
+    by_hands false = refl

@@ -60,8 +60,21 @@ change_at : (s : Core) (p w : ℕ) (x y : Pool) (h g : Hand) (pools : List (ℕ 
     IsSound (record s { pools = pools; hands = slice_set s.hands w g; disk = disk })
 change_at s p w x y h g pools disk sound at hand swap fits under reads writes moves pins fresh home task own =
     change_sound s (record s { pools = pools; hands = slice_set s.hands w g; disk = disk }) p w x y h g sound (record {
-      pool = at; hand = hand; pools = swap; hands = refl; limit = refl; fits = fits; under = under; reads = reads; writes = writes; moves = moves;
-      pins = pins; fresh = fresh; disk = home; in_wave = refl; tasks = refl;
+      pool = at;
+      hand = hand;
+      pools = swap;
+      hands = refl;
+      limit = refl;
+      fits = fits;
+      under = under;
+      reads = reads;
+      writes = writes;
+      moves = moves;
+      pins = pins;
+      fresh = fresh;
+      disk = home;
+      in_wave = refl;
+      tasks = refl;
       kept = λ t. ap (λ o. count_by (nat_eq t) s.unclaimed + count_by (nat_eq t) s.done + one (holds o t)) task;
       own = own;
     })
@@ -110,11 +123,10 @@ disk_out : (s : Core) (p : ℕ) (x : Pool) → IsSound s → pool_at s.pools p �
 disk_out s p x sound at t =
     let r = sum_removed (λ v. one (moves_by_disk v.stage)) p x s.pools at in let i : one (moves_by_disk x.stage) ≡ 1 = ap one t in
     let k = sound.one_disk_move in some_one (is_some s.disk) (omega arith)
-    where
-      some_one : (b : Bool) → 1 ≤ one b → one b ≡ 1
-      some_one true h = refl
-      some_one false h = absurd (omega arith)
-
+  where
+    some_one : (b : Bool) → 1 ≤ one b → one b ≡ 1
+    some_one true h = refl
+    some_one false h = absurd (omega arith)
 
 false_ok : {A : Type 0} → false ≡ true → A
 false_ok h = absurd (true≢false (sym h))
@@ -157,25 +169,25 @@ pin_read_sound s p w stage.Free e c t wr None m sound at hand ok =
     let x = at_stage stage.Free e c in let y = at_stage (stage.Read 1) e c in let h = hand_of t wr None m in let g = hand_of t wr (Some p) m in
     let swap = swapped_front p x y s.pools sound.one_pool at in
     change_at s p w x y h g (front p y s.pools) s.disk sound at hand swap
-      (fit_at s.limit stage.Free (stage.Read 1) e c (sound.forms_fit p x at) (omega arith)) (let u = sound.under_fits in omega arith)
-      (fits_take read_pins p x y refl) (fits_same write_pins p x y wr refl) (fits_same movers p x y m refl)
-      (pins_same s p w x y h g (front p y s.pools) sound hand swap (λ m d e. cc) refl (λ q d e. cc) (λ q d e. e)) (λ m d e. cc) refl refl (λ i. sound.own_task i w h hand)
+    (fit_at s.limit stage.Free (stage.Read 1) e c (sound.forms_fit p x at) (omega arith)) (let u = sound.under_fits in omega arith)
+    (fits_take read_pins p x y refl) (fits_same write_pins p x y wr refl) (fits_same movers p x y m refl)
+    (pins_same s p w x y h g (front p y s.pools) sound hand swap (λ m d e. cc) refl (λ q d e. cc) (λ q d e. e)) (λ m d e. cc) refl refl (λ i. sound.own_task i w h hand)
 pin_read_sound s p w (stage.Read n) e c t wr None m sound at hand ok =
     let x = at_stage (stage.Read n) e c in let y = at_stage (stage.Read (n + 1)) e c in let h = hand_of t wr None m in let g = hand_of t wr (Some p) m in
     let swap = swapped_front p x y s.pools sound.one_pool at in
     change_at s p w x y h g (front p y s.pools) s.disk sound at hand swap
-      (fit_at s.limit (stage.Read n) (stage.Read (n + 1)) e c (sound.forms_fit p x at) (omega arith)) (let u = sound.under_fits in omega arith)
-      (fits_take read_pins p x y refl) (fits_same write_pins p x y wr refl) (fits_same movers p x y m refl)
-      (pins_same s p w x y h g (front p y s.pools) sound hand swap (λ m d e. cc) refl (λ q d e. cc) (λ q d e. e)) (λ m d e. cc) refl refl (λ i. sound.own_task i w h hand)
+    (fit_at s.limit (stage.Read n) (stage.Read (n + 1)) e c (sound.forms_fit p x at) (omega arith)) (let u = sound.under_fits in omega arith)
+    (fits_take read_pins p x y refl) (fits_same write_pins p x y wr refl) (fits_same movers p x y m refl)
+    (pins_same s p w x y h g (front p y s.pools) sound hand swap (λ m d e. cc) refl (λ q d e. cc) (λ q d e. e)) (λ m d e. cc) refl refl (λ i. sound.own_task i w h hand)
 pin_read_sound s p w _ e c t wr None m sound at hand ok = cc
 
 -- a worker that may write p in a wave has it as its task
 own_task_of : (b : Bool) (t : Option ℕ) (p : ℕ) → (b && not (holds t p)) ≡ false → b ≡ true → (q : ℕ) → Some p ≡ Some q → t ≡ Some q
 own_task_of true t p h i q e = holds_is t p (not_not (holds t p) h) ∙ e
-    where
-      not_not : (b : Bool) → not b ≡ false → b ≡ true
-      not_not true h = refl
-      not_not false h = cc
+  where
+    not_not : (b : Bool) → not b ≡ false → b ≡ true
+    not_not true h = refl
+    not_not false h = cc
 own_task_of false t p h i q e = cc
 
 pub pin_write_sound : (s : Core) (p w room : ℕ) (st : Stage) (e c : ℕ) (t wr r m : Option ℕ) → IsSound s → pool_at s.pools p ≡ Some (at_stage st e c) → slice_get s.hands w ≡ Some (hand_of t wr r m) →
@@ -187,9 +199,9 @@ pin_write_sound s p w room stage.Free e c t None r m sound at hand ok =
     let task = permit_head (s.in_wave && not (holds t p)) NoTask _ ok in let size = permit_head (nat_lt (2 ^ 41) room) BadSize _ task.1 in
     let swap = swapped_front p x y s.pools sound.one_pool at in
     change_at s p w x y h g (front p y s.pools) s.disk sound at hand swap
-      (fit_at s.limit stage.Free (stage.Written room) e c (sound.forms_fit p x at) (not_above room (2 ^ 41) size.0)) (let u = sound.under_fits in omega arith)
-      (fits_same read_pins p x y r refl) (fits_take write_pins p x y refl) (fits_same movers p x y m refl)
-      (pins_same s p w x y h g (front p y s.pools) sound hand swap (λ m d e. cc) refl (λ q d e. e) (λ q d e. cc)) (λ m d e. cc) refl refl (own_task_of s.in_wave t p task.0)
+    (fit_at s.limit stage.Free (stage.Written room) e c (sound.forms_fit p x at) (not_above room (2 ^ 41) size.0)) (let u = sound.under_fits in omega arith)
+    (fits_same read_pins p x y r refl) (fits_take write_pins p x y refl) (fits_same movers p x y m refl)
+    (pins_same s p w x y h g (front p y s.pools) sound hand swap (λ m d e. cc) refl (λ q d e. e) (λ q d e. cc)) (λ m d e. cc) refl refl (own_task_of s.in_wave t p task.0)
 pin_write_sound s p w room _ e c t None r m sound at hand ok = let task = permit_head (s.in_wave && not (holds t p)) NoTask _ ok in false_ok task.1
 
 -- a reload for reading
@@ -200,13 +212,13 @@ reload_read s p w st d e c t wr disk sound at hand r0 w0 m0 home =
     let x = at_stage st e c in let y = at_stage (stage.Reloading mode.Read d) e c in let h = hand_of t wr None None in let g = hand_of t wr (Some p) (Some p) in
     let swap = swapped_in_place p x y s.pools sound.one_pool at in
     change_at s p w x y h g (in_place p y s.pools) disk sound at hand swap
-      (fit_at s.limit st (stage.Reloading mode.Read d) e c (sound.forms_fit p x at) (omega arith)) (let u = sound.under_fits in omega arith)
-      (fits_take read_pins p x y (sym (ap (λ n. n + 1) r0))) (fits_same write_pins p x y wr (sym w0)) (fits_take movers p x y (sym (ap (λ n. n + 1) m0)))
-      (λ q z b moved is. ((λ r. moved), (λ room r. let zy = same_here p q x y z s.pools (in_place p y s.pools) swap (same_Some p q moved) is in let k : stage.Reloading mode.Read d ≡ stage.Reloading (mode.Write room) b = ap (λ v. v.stage) zy ∙ r in absurd (two_modes d b room k))))
-      (λ m b e. m0) home refl (λ i. sound.own_task i w h hand)
-    where
-      two_modes : (d b : Bool) (room : ℕ) → stage.Reloading mode.Read d ≡ stage.Reloading (mode.Write room) b → ⊥
-      two_modes d b room k = let m : mode.Read ≡ mode.Write room = cc in cc
+    (fit_at s.limit st (stage.Reloading mode.Read d) e c (sound.forms_fit p x at) (omega arith)) (let u = sound.under_fits in omega arith)
+    (fits_take read_pins p x y (sym (ap (λ n. n + 1) r0))) (fits_same write_pins p x y wr (sym w0)) (fits_take movers p x y (sym (ap (λ n. n + 1) m0)))
+    (λ q z b moved is. ((λ r. moved), (λ room r. let zy = same_here p q x y z s.pools (in_place p y s.pools) swap (same_Some p q moved) is in let k : stage.Reloading mode.Read d ≡ stage.Reloading (mode.Write room) b = ap (λ v. v.stage) zy ∙ r in absurd (two_modes d b room k))))
+    (λ m b e. m0) home refl (λ i. sound.own_task i w h hand)
+  where
+    two_modes : (d b : Bool) (room : ℕ) → stage.Reloading mode.Read d ≡ stage.Reloading (mode.Write room) b → ⊥
+    two_modes d b room k = let m : mode.Read ≡ mode.Write room = cc in cc
 
 reload_write : (s : Core) (p w room : ℕ) (st : Stage) (d : Bool) (e c : ℕ) (t r : Option ℕ) (disk : Option ℕ) → IsSound s → pool_at s.pools p ≡ Some (at_stage st e c) → slice_get s.hands w ≡ Some (hand_of t None r None) →
     read_pins st ≡ 0 → write_pins st ≡ 0 → movers st ≡ 0 → one d + one (is_some s.disk) ≡ one (moves_by_disk st) + one (is_some disk) → room ≤ 2 ^ 41 → (s.in_wave && not (holds t p)) ≡ false →
@@ -215,13 +227,13 @@ reload_write s p w room st d e c t r disk sound at hand r0 w0 m0 home fits task 
     let x = at_stage st e c in let y = at_stage (stage.Reloading (mode.Write room) d) e c in let h = hand_of t None r None in let g = hand_of t (Some p) r (Some p) in
     let swap = swapped_in_place p x y s.pools sound.one_pool at in
     change_at s p w x y h g (in_place p y s.pools) disk sound at hand swap
-      (fit_at s.limit st (stage.Reloading (mode.Write room) d) e c (sound.forms_fit p x at) fits) (let u = sound.under_fits in omega arith)
-      (fits_same read_pins p x y r (sym r0)) (fits_take write_pins p x y (sym (ap (λ n. n + 1) w0))) (fits_take movers p x y (sym (ap (λ n. n + 1) m0)))
-      (λ q z b moved is. ((λ k. let zy = same_here p q x y z s.pools (in_place p y s.pools) swap (same_Some p q moved) is in let l : stage.Reloading (mode.Write room) d ≡ stage.Reloading mode.Read b = ap (λ v. v.stage) zy ∙ k in absurd (two_modes d b room l)), (λ n k. moved)))
-      (λ m b e. m0) home refl (own_task_of s.in_wave t p task)
-    where
-      two_modes : (d b : Bool) (room : ℕ) → stage.Reloading (mode.Write room) d ≡ stage.Reloading mode.Read b → ⊥
-      two_modes d b room k = let m : mode.Write room ≡ mode.Read = cc in cc
+    (fit_at s.limit st (stage.Reloading (mode.Write room) d) e c (sound.forms_fit p x at) fits) (let u = sound.under_fits in omega arith)
+    (fits_same read_pins p x y r (sym r0)) (fits_take write_pins p x y (sym (ap (λ n. n + 1) w0))) (fits_take movers p x y (sym (ap (λ n. n + 1) m0)))
+    (λ q z b moved is. ((λ k. let zy = same_here p q x y z s.pools (in_place p y s.pools) swap (same_Some p q moved) is in let l : stage.Reloading (mode.Write room) d ≡ stage.Reloading mode.Read b = ap (λ v. v.stage) zy ∙ k in absurd (two_modes d b room l)), (λ n k. moved)))
+    (λ m b e. m0) home refl (own_task_of s.in_wave t p task)
+  where
+    two_modes : (d b : Bool) (room : ℕ) → stage.Reloading (mode.Write room) d ≡ stage.Reloading mode.Read b → ⊥
+    two_modes d b room k = let m : mode.Write room ≡ mode.Read = cc in cc
 
 pub reload_begin_sound : (s : Core) (p w : ℕ) (m : Mode) (st : Stage) (e c : ℕ) (t wr r mv : Option ℕ) → IsSound s → pool_at s.pools p ≡ Some (at_stage st e c) → slice_get s.hands w ≡ Some (hand_of t wr r mv) →
     is_ok (permit (Rows.reload_begin_row (at_stage st e c) (hand_of t wr r mv) s.in_wave p m s.disk) (at_stage (stage.Reloading m (is_offloaded st)) e c)) ≡ true →
@@ -250,12 +262,12 @@ ended s p w st new e c t wr r mv pools disk sound at hand moved swap fits under 
     let x = at_stage st e c in let y = at_stage new e c in let h = hand_of t wr r (Some p) in let g = hand_of t wr r None in
     let hand' : slice_get s.hands w ≡ Some h = hand ∙ ap (λ o. Some (hand_of t wr r o)) moved in
     change_at s p w x y h g pools disk sound at hand' swap
-      (fit_at s.limit st new e c (sound.forms_fit p x at) fits) (let u = sound.under_fits in omega arith)
-      (fits_same read_pins p x y r reads) (fits_same write_pins p x y wr writes) (fits_drop movers p x y (ap (λ n. n + 1) m0 ∙ sym m1))
-      (pins_none g pools refl) (λ m b e. absurd (no_mover new m b m0 e)) (let o : one (moves_by_disk new) ≡ 0 = ap one off in omega arith) refl (λ i. sound.own_task i w h hand')
-    where
-      no_mover : (new : Stage) (m : Mode) (b : Bool) → movers new ≡ 0 → new ≡ stage.Reloading m b → ⊥
-      no_mover new m b z e = let k : movers new ≡ 1 = ap movers e in (omega arith)
+    (fit_at s.limit st new e c (sound.forms_fit p x at) fits) (let u = sound.under_fits in omega arith)
+    (fits_same read_pins p x y r reads) (fits_same write_pins p x y wr writes) (fits_drop movers p x y (ap (λ n. n + 1) m0 ∙ sym m1))
+    (pins_none g pools refl) (λ m b e. absurd (no_mover new m b m0 e)) (let o : one (moves_by_disk new) ≡ 0 = ap one off in omega arith) refl (λ i. sound.own_task i w h hand')
+  where
+    no_mover : (new : Stage) (m : Mode) (b : Bool) → movers new ≡ 0 → new ≡ stage.Reloading m b → ⊥
+    no_mover new m b z e = let k : movers new ≡ 1 = ap movers e in (omega arith)
 
 -- both parts of a test that holds
 both_of : (a b : Bool) → not (a && b) ≡ false → (a ≡ true) × (b ≡ true)
@@ -273,11 +285,11 @@ pub reload_end_sound : (s : Core) (p w : ℕ) (st : Stage) (e c : ℕ) (t wr r m
 reload_end_sound s p w (stage.Reloading mode.Read d) e c t wr r mv sound at hand ok =
     let part = permit_head (not (holds mv p && true)) NotHeld _ ok in let both = both_of (holds mv p) true part.0 in
     ended s p w (stage.Reloading mode.Read d) (stage.Read 1) e c t wr r mv _ _ sound at hand (holds_is mv p both.0)
-      (swapped_front p (at_stage (stage.Reloading mode.Read d) e c) (at_stage (stage.Read 1) e c) s.pools sound.one_pool at) (omega arith) refl refl refl refl refl refl (home_after s p (at_stage (stage.Reloading mode.Read d) e c) d sound at refl)
+    (swapped_front p (at_stage (stage.Reloading mode.Read d) e c) (at_stage (stage.Read 1) e c) s.pools sound.one_pool at) (omega arith) refl refl refl refl refl refl (home_after s p (at_stage (stage.Reloading mode.Read d) e c) d sound at refl)
 reload_end_sound s p w (stage.Reloading (mode.Write room) d) e c t wr r mv sound at hand ok =
     let part = permit_head (not (holds mv p && true)) NotHeld _ ok in let both = both_of (holds mv p) true part.0 in
     ended s p w (stage.Reloading (mode.Write room) d) (stage.Written room) e c t wr r mv _ _ sound at hand (holds_is mv p both.0)
-      (swapped_front p (at_stage (stage.Reloading (mode.Write room) d) e c) (at_stage (stage.Written room) e c) s.pools sound.one_pool at) (sound.forms_fit p (at_stage (stage.Reloading (mode.Write room) d) e c) at).stage_fits refl refl refl refl refl refl (home_after s p (at_stage (stage.Reloading (mode.Write room) d) e c) d sound at refl)
+    (swapped_front p (at_stage (stage.Reloading (mode.Write room) d) e c) (at_stage (stage.Written room) e c) s.pools sound.one_pool at) (sound.forms_fit p (at_stage (stage.Reloading (mode.Write room) d) e c) at).stage_fits refl refl refl refl refl refl (home_after s p (at_stage (stage.Reloading (mode.Write room) d) e c) d sound at refl)
 reload_end_sound s p w _ e c t wr r mv sound at hand ok = let part = permit_head (not (holds mv p && false)) NotHeld _ ok in let both = both_of (holds mv p) false part.0 in no_both both.1
 
 pub compact_end_sound : (s : Core) (p w : ℕ) (st : Stage) (e c : ℕ) (t wr r mv : Option ℕ) → IsSound s → pool_at s.pools p ≡ Some (at_stage st e c) → slice_get s.hands w ≡ Some (hand_of t wr r mv) →
@@ -286,7 +298,7 @@ pub compact_end_sound : (s : Core) (p w : ℕ) (st : Stage) (e c : ℕ) (t wr r 
 compact_end_sound s p w stage.Compacting e c t wr r mv sound at hand ok =
     let part = permit_head (not (holds mv p && true)) NotHeld _ ok in let both = both_of (holds mv p) true part.0 in
     ended s p w stage.Compacting stage.Compacted e c t wr r mv _ _ sound at hand (holds_is mv p both.0)
-      (swapped_in_place p (at_stage stage.Compacting e c) (at_stage stage.Compacted e c) s.pools sound.one_pool at) tt refl refl refl refl refl refl (sym (zero-add (one (is_some s.disk))))
+    (swapped_in_place p (at_stage stage.Compacting e c) (at_stage stage.Compacted e c) s.pools sound.one_pool at) tt refl refl refl refl refl refl (sym (zero-add (one (is_some s.disk))))
 compact_end_sound s p w _ e c t wr r mv sound at hand ok = let part = permit_head (not (holds mv p && false)) NotHeld _ ok in let both = both_of (holds mv p) false part.0 in no_both both.1
 
 pub offload_end_sound : (s : Core) (p w : ℕ) (st : Stage) (e c : ℕ) (t wr r mv : Option ℕ) → IsSound s → pool_at s.pools p ≡ Some (at_stage st e c) → slice_get s.hands w ≡ Some (hand_of t wr r mv) →
@@ -295,7 +307,7 @@ pub offload_end_sound : (s : Core) (p w : ℕ) (st : Stage) (e c : ℕ) (t wr r 
 offload_end_sound s p w stage.Offloading e c t wr r mv sound at hand ok =
     let part = permit_head (not (holds mv p && true)) NotHeld _ ok in let both = both_of (holds mv p) true part.0 in
     ended s p w stage.Offloading stage.Offloaded e c t wr r mv _ _ sound at hand (holds_is mv p both.0)
-      (swapped_in_place p (at_stage stage.Offloading e c) (at_stage stage.Offloaded e c) s.pools sound.one_pool at) tt refl refl refl refl refl refl (disk_out s p (at_stage stage.Offloading e c) sound at refl)
+    (swapped_in_place p (at_stage stage.Offloading e c) (at_stage stage.Offloaded e c) s.pools sound.one_pool at) tt refl refl refl refl refl refl (disk_out s p (at_stage stage.Offloading e c) sound at refl)
 offload_end_sound s p w _ e c t wr r mv sound at hand ok = let part = permit_head (not (holds mv p && false)) NotHeld _ ok in let both = both_of (holds mv p) false part.0 in no_both both.1
 
 -- the fit of a form
@@ -342,10 +354,10 @@ reader_leaves s p w n new e c t wr r m sound at hand held reads writes moves off
     let swap = swapped_front p x y s.pools sound.one_pool at in
     let hand' : slice_get s.hands w ≡ Some h = hand ∙ ap (λ o. Some (hand_of t wr o m)) held in
     change_at s p w x y h g (front p y s.pools) s.disk sound at hand' swap
-      (fit_at s.limit (stage.Read n) new e c (sound.forms_fit p x at) fits) (omega arith)
-      (fits_drop read_pins p x y reads) (fits_same write_pins p x y wr writes) (fits_same movers p x y m moves)
-      (pins_same s p w x y h g (front p y s.pools) sound hand' swap still refl (λ q d k. absurd (d (same_Some p q k))) (λ q d k. k)) (λ m d k. absurd (still m d k))
-      (ap (λ b. one b + one (is_some s.disk)) off) refl (λ i. sound.own_task i w h hand')
+    (fit_at s.limit (stage.Read n) new e c (sound.forms_fit p x at) fits) (omega arith)
+    (fits_drop read_pins p x y reads) (fits_same write_pins p x y wr writes) (fits_same movers p x y m moves)
+    (pins_same s p w x y h g (front p y s.pools) sound hand' swap still refl (λ q d k. absurd (d (same_Some p q k))) (λ q d k. k)) (λ m d k. absurd (still m d k))
+    (ap (λ b. one b + one (is_some s.disk)) off) refl (λ i. sound.own_task i w h hand')
 
 pub unpin_read_sound : (s : Core) (p w : ℕ) (f : Form) (st : Stage) (e c : ℕ) (t wr r m : Option ℕ) → IsSound s → pool_at s.pools p ≡ Some (at_stage st e c) → slice_get s.hands w ≡ Some (hand_of t wr r m) →
     is_ok (permit (Rows.unpin_read_row s.limit (under_sum s.pools) (at_stage st e c) (hand_of t wr r m) p f) (at_stage (Rows.without_reader f st) e c)) ≡ true →
@@ -356,8 +368,8 @@ unpin_read_sound s p w f (stage.Read n) e c t wr r m sound at hand ok =
     (elim (n == 1) as (λ b. (n == 1) ≡ b → IsSound (record s { pools = front p (at_stage (if b then Rows.free_in f else stage.Read (n - 1)) e c) s.pools; hands = slice_set s.hands w (hand_of t wr None m); disk = s.disk })) [
       | true ↦ λ one_left. let k = rw one_left at part.1 in
           reader_leaves s p w n (Rows.free_in f) e c t wr r m sound at hand (holds_is r p both.0)
-            (let z = free_reads read_pins refl refl f in let o = same_number n 1 one_left in omega arith) (free_reads write_pins refl refl f) (free_reads movers refl refl f) (free_home f) (fit_stage f)
-            (let a = free_under f e c in let b = fit_of s.limit (under_sum s.pools) f e c (permit_any (Rows.fit_row s.limit (under_sum s.pools) f e c) (at_stage (Rows.free_in f) e c) e k) in omega arith) (λ m d z. free_still f m d z)
+          (let z = free_reads read_pins refl refl f in let o = same_number n 1 one_left in omega arith) (free_reads write_pins refl refl f) (free_reads movers refl refl f) (free_home f) (fit_stage f)
+          (let a = free_under f e c in let b = fit_of s.limit (under_sum s.pools) f e c (permit_any (Rows.fit_row s.limit (under_sum s.pools) f e c) (at_stage (Rows.free_in f) e c) e k) in omega arith) (λ m d z. free_still f m d z)
       | false ↦ λ more. let ne : n ≢ 1 = apart_number n 1 more in
           reader_leaves s p w n (stage.Read (n - 1)) e c t wr r m sound at hand (holds_is r p both.0) (omega arith) refl refl refl (omega arith) (let u = sound.under_fits in omega arith) (λ m d z. let k : 0 ≡ 1 = ap movers z in omega arith)
     ]) refl
@@ -378,9 +390,9 @@ found_back test (a ∷ es) e d h =
           (rw (later e a es d on.0) on.0, on.1)
       | None ↦ λ is k. let c = cond_some (test a) a e k in (rw (ap (nat_eq e.0) (ap (λ v. v.0) c.1) ∙ number_itself e.0) (ap (λ v. Some v.1) c.1), ap test (sym c.1) ∙ c.0)
     ]) refl h'
-    where
-      later : (e a : ℕ × Pool) (es : List (ℕ × Pool)) → IsDistinct nat_eq (keys_of (a ∷ es)) → lookup (nat_eq e.0) es ≡ Some e.1 → nat_eq e.0 a.0 ≡ false
-      later e a es d h = other_number e.0 a.0 (λ same. let none = head_absent a.0 es d in let k : Some e.1 ≡ None = sym h ∙ (ap (λ i. lookup (nat_eq i) es) same ∙ none) in cc)
+  where
+    later : (e a : ℕ × Pool) (es : List (ℕ × Pool)) → IsDistinct nat_eq (keys_of (a ∷ es)) → lookup (nat_eq e.0) es ≡ Some e.1 → nat_eq e.0 a.0 ≡ false
+    later e a es d h = other_number e.0 a.0 (λ same. let none = head_absent a.0 es d in let k : Some e.1 ≡ None = sym h ∙ (ap (λ i. lookup (nat_eq i) es) same ∙ none) in cc)
 
 -- the victim is free or compacted
 victim_is : (pools : List (ℕ × Pool)) (p : ℕ) (x : Pool) → IsDistinct nat_eq (keys_of pools) → victim pools ≡ Some p → pool_at pools p ≡ Some x → (is_free x.stage ≡ true) ⊎ (is_compacted x.stage ≡ true)
@@ -389,10 +401,10 @@ victim_is pools p x d v at =
       | Some e ↦ λ is k. let f = found_back (λ e. is_free e.1.stage) pools e d is in let same : e.0 ≡ p = same_Some e.0 p k in
           let c : x ≡ e.1 = same_Some x e.1 (sym at ∙ (ap (λ i. lookup (nat_eq i) pools) (sym same) ∙ f.0)) in inl (ap (λ z. is_free z.stage) c ∙ f.1)
       | None ↦ λ is k. (elim (find (λ e. is_compacted e.1.stage) (reverse pools)) as (λ o. find (λ e. is_compacted e.1.stage) (reverse pools) ≡ o → option_map (λ e. e.0) o ≡ Some p → (is_free x.stage ≡ true) ⊎ (is_compacted x.stage ≡ true)) [
-          | Some e ↦ λ is2 k2. let f = found_back (λ e. is_compacted e.1.stage) pools e d is2 in let same : e.0 ≡ p = same_Some e.0 p k2 in
-              let c : x ≡ e.1 = same_Some x e.1 (sym at ∙ (ap (λ i. lookup (nat_eq i) pools) (sym same) ∙ f.0)) in inr (ap (λ z. is_compacted z.stage) c ∙ f.1)
-          | None ↦ λ is2 k2. cc
-        ]) refl k
+        | Some e ↦ λ is2 k2. let f = found_back (λ e. is_compacted e.1.stage) pools e d is2 in let same : e.0 ≡ p = same_Some e.0 p k2 in
+            let c : x ≡ e.1 = same_Some x e.1 (sym at ∙ (ap (λ i. lookup (nat_eq i) pools) (sym same) ∙ f.0)) in inr (ap (λ z. is_compacted z.stage) c ∙ f.1)
+        | None ↦ λ is2 k2. cc
+      ]) refl k
     ]) refl v
 
 pub compact_begin_sound : (s : Core) (p w wanted : ℕ) (st : Stage) (e c : ℕ) (t wr r m : Option ℕ) → IsSound s → pool_at s.pools p ≡ Some (at_stage st e c) → slice_get s.hands w ≡ Some (hand_of t wr r m) →
@@ -403,13 +415,13 @@ compact_begin_sound s p w wanted stage.Free e c t wr r None sound at hand ok =
     let x = at_stage stage.Free e c in let y = at_stage stage.Compacting e c in let h = hand_of t wr r None in let g = hand_of t wr r (Some p) in
     let swap = swapped_in_place p x y s.pools sound.one_pool at in let fits = sound.forms_fit p x at in
     change_at s p w x y h g (in_place p y s.pools) s.disk sound at hand swap
-      (fit_at s.limit stage.Free stage.Compacting e c fits tt) (let u = sound.under_fits in let f = fits.shorter in omega arith)
-      (fits_same read_pins p x y r refl) (fits_same write_pins p x y wr refl) (fits_take movers p x y refl)
-      (pins_move p x y g s.pools (in_place p y s.pools) swap (λ m d k. let z : 0 ≡ 1 = ap moves_count k in omega arith) refl) (λ m d k. let z : 0 ≡ 1 = ap moves_count k in absurd (omega arith)) refl refl (λ i. sound.own_task i w h hand)
-    where
-      moves_count : Stage → ℕ
-      moves_count (stage.Reloading m d) = 1
-      moves_count _ = 0
+    (fit_at s.limit stage.Free stage.Compacting e c fits tt) (let u = sound.under_fits in let f = fits.shorter in omega arith)
+    (fits_same read_pins p x y r refl) (fits_same write_pins p x y wr refl) (fits_take movers p x y refl)
+    (pins_move p x y g s.pools (in_place p y s.pools) swap (λ m d k. let z : 0 ≡ 1 = ap moves_count k in omega arith) refl) (λ m d k. let z : 0 ≡ 1 = ap moves_count k in absurd (omega arith)) refl refl (λ i. sound.own_task i w h hand)
+  where
+    moves_count : Stage → ℕ
+    moves_count (stage.Reloading m d) = 1
+    moves_count _ = 0
 compact_begin_sound s p w wanted (stage.Read n) e c t wr r None sound at hand ok =
     let a = permit_head (nat_le (under_sum s.pools + wanted) s.limit) Fits_refusal _ ok in let b = permit_head (not (holds (victim s.pools) p)) NotVictim _ a.1 in
     elim (victim_is s.pools p (at_stage (stage.Read n) e c) sound.one_pool (holds_is (victim s.pools) p (not_not _ b.0)) at) [ inl h ↦ no_both h | inr h ↦ no_both h ]
@@ -427,13 +439,13 @@ offload_begin_sound s p w wanted stage.Compacted e c t wr r None sound at hand o
     let x = at_stage stage.Compacted e c in let y = at_stage stage.Offloading e c in let h = hand_of t wr r None in let g = hand_of t wr r (Some p) in
     let swap = swapped_in_place p x y s.pools sound.one_pool at in let fits = sound.forms_fit p x at in
     change_at s p w x y h g (in_place p y s.pools) (Some w) sound at hand swap
-      (fit_at s.limit stage.Compacted stage.Offloading e c fits tt) (let u = sound.under_fits in omega arith)
-      (fits_same read_pins p x y r refl) (fits_same write_pins p x y wr refl) (fits_take movers p x y refl)
-      (pins_move p x y g s.pools (in_place p y s.pools) swap (λ m d k. let z : 0 ≡ 1 = ap moves_count k in omega arith) refl) (λ m d k. let z : 0 ≡ 1 = ap moves_count k in absurd (omega arith)) (ap (λ b. 1 + one b) out.0) refl (λ i. sound.own_task i w h hand)
-    where
-      moves_count : Stage → ℕ
-      moves_count (stage.Reloading m d) = 1
-      moves_count _ = 0
+    (fit_at s.limit stage.Compacted stage.Offloading e c fits tt) (let u = sound.under_fits in omega arith)
+    (fits_same read_pins p x y r refl) (fits_same write_pins p x y wr refl) (fits_take movers p x y refl)
+    (pins_move p x y g s.pools (in_place p y s.pools) swap (λ m d k. let z : 0 ≡ 1 = ap moves_count k in omega arith) refl) (λ m d k. let z : 0 ≡ 1 = ap moves_count k in absurd (omega arith)) (ap (λ b. 1 + one b) out.0) refl (λ i. sound.own_task i w h hand)
+  where
+    moves_count : Stage → ℕ
+    moves_count (stage.Reloading m d) = 1
+    moves_count _ = 0
 offload_begin_sound s p w wanted _ e c t wr r None sound at hand ok = cc
 
 -- a new value fits as the form says
@@ -453,7 +465,11 @@ unpin_write_sound s p w f ne nc (stage.Written n) e c t wr r m sound at hand ok 
     let held = holds_is wr p both.0 in
     let z = free_under f ne nc in
     change_sound s (record s { pools = front p y s.pools; hands = slice_set s.hands w g; done = done }) p w x y h g sound (record {
-      pool = at; hand = hand; pools = swap; hands = refl; limit = refl;
+      pool = at;
+      hand = hand;
+      pools = swap;
+      hands = refl;
+      limit = refl;
       fits = record { shorter = not_above nc ne sizes.0; within = short; charge = not_above ne (2 ^ 40) sizes.1; stage_fits = fit_stage f };
       under = (let a = sound.under_fits in omega arith);
       reads = fits_like read_pins p x y r g.read (sym read) (free_reads read_pins refl refl f);
@@ -462,15 +478,17 @@ unpin_write_sound s p w f ne nc (stage.Written n) e c t wr r m sound at hand ok 
       pins = pins_same s p w x y h g (front p y s.pools) sound hand swap (λ m d k. free_still f m d k) moved (λ q d k. read ∙ k) (λ q d k. absurd (d (same_Some p q (sym held ∙ k))));
       fresh = λ m d k. free_still f m d k;
       disk = ap (λ b. one b + one (is_some s.disk)) (free_home f);
-      in_wave = refl; tasks = refl; kept = tasks;
+      in_wave = refl;
+      tasks = refl;
+      kept = tasks;
       own = λ i q k. let l : None ≡ Some q = sym none ∙ k in cc;
     })
-    where
-      sizes_fit : (a b c : Bool) → (a || b || c) ≡ false → (a ≡ false) × (b ≡ false) × (c ≡ false)
-      sizes_fit false false false h = (refl, refl, refl)
-      sizes_fit true b c h = cc
-      sizes_fit false true c h = cc
-      sizes_fit false false true h = cc
+  where
+    sizes_fit : (a b c : Bool) → (a || b || c) ≡ false → (a ≡ false) × (b ≡ false) × (c ≡ false)
+    sizes_fit false false false h = (refl, refl, refl)
+    sizes_fit true b c h = cc
+    sizes_fit false true c h = cc
+    sizes_fit false false true h = cc
 unpin_write_sound s p w f ne nc _ e c t wr r m sound at hand ok g done read moved none tasks = let part = permit_head (not (holds wr p && false)) NotHeld _ ok in let both = both_of (holds wr p) false part.0 in no_both both.1
 
 -- the pools with one that was absent
@@ -488,11 +506,11 @@ insert_sound s p f e c sound ok =
     let z = free_under f e c in
     let found : (q : ℕ) → pool_at ((p, x) ∷ s.pools) q ≡ cond (nat_eq p q) (Some x) (pool_at s.pools q) = λ q. ap (λ b. cond b (Some x) (pool_at s.pools q)) (nat_eq_equiv.symm q p) in
     let still : (number : Stage → ℕ) → number (Rows.free_in f) ≡ 0 → (q n : ℕ) → n ≡ wanted_by number (pool_at s.pools q) → n ≡ wanted_by number (pool_at ((p, x) ∷ s.pools) q) = λ number zero_at q n was.
-        (elim (nat_eq p q) as (λ b. nat_eq p q ≡ b → n ≡ wanted_by number (pool_at ((p, x) ∷ s.pools) q)) [
-          | true ↦ λ t. let k = found q in let k' = rw t at k in let same = same_number p q t in
-              was ∙ (ap (λ i. wanted_by number (pool_at s.pools i)) (sym same) ∙ ap (wanted_by number) none) ∙ sym (ap (wanted_by number) k' ∙ zero_at)
-          | false ↦ λ t. let k = found q in let k' = rw t at k in was ∙ sym (ap (wanted_by number) k')
-        ]) refl in
+    (elim (nat_eq p q) as (λ b. nat_eq p q ≡ b → n ≡ wanted_by number (pool_at ((p, x) ∷ s.pools) q)) [
+      | true ↦ λ t. let k = found q in let k' = rw t at k in let same = same_number p q t in
+          was ∙ (ap (λ i. wanted_by number (pool_at s.pools i)) (sym same) ∙ ap (wanted_by number) none) ∙ sym (ap (wanted_by number) k' ∙ zero_at)
+      | false ↦ λ t. let k = found q in let k' = rw t at k in was ∙ sym (ap (wanted_by number) k')
+    ]) refl in
     record {
       under_fits = (let k = sum_by-cons under_part x (values_of s.pools) in let g : sum_by under_part (x ∷ values_of s.pools) ≤ s.limit = omega arith in g);
       one_pool = IsDistinct-cons nat_eq p (keys_of s.pools) (apart_from_none p s.pools none) sound.one_pool;
@@ -520,13 +538,15 @@ insert_sound s p f e c sound ok =
       own_task = sound.own_task;
       no_tasks = sound.no_tasks;
     }
-    where
-      both_false : (a b : Bool) → (a || b) ≡ false → (a ≡ false) × (b ≡ false)
-      both_false false false h = (refl, refl)
-      both_false true b h = cc
-      both_false false true h = cc
-      none_of : (o : Option Pool) → is_some o ≡ false → o ≡ None
-      none_of None h = refl
-      none_of (Some x) h = cc
-      below_full : (n : ℕ) → nat_le 4096 n ≡ false → n < 4096
-      below_full n h = grind (arith, nat_tests)
+  where
+    both_false : (a b : Bool) → (a || b) ≡ false → (a ≡ false) × (b ≡ false)
+    both_false false false h = (refl, refl)
+    both_false true b h = cc
+    both_false false true h = cc
+
+    none_of : (o : Option Pool) → is_some o ≡ false → o ≡ None
+    none_of None h = refl
+    none_of (Some x) h = cc
+
+    below_full : (n : ℕ) → nat_le 4096 n ≡ false → n < 4096
+    below_full n h = grind (arith, nat_tests)

@@ -140,16 +140,28 @@ all_are_empty (suc n) (suc w) h at = all_are_empty n w h at
 -- the state that `new` makes is sound
 pub fresh_sound : (limit n : ℕ) → IsSound (start limit n)
 fresh_sound limit n = record {
-  under_fits = omega arith; one_pool = nothing_differs; slots = omega arith; forms_fit = λ p x at. cc;
-  readers = λ p. nobody_holds (λ h. h.read) n p refl; writers = λ p. nobody_holds (λ h. h.written) n p refl; one_mover = λ p. nobody_holds (λ h. h.moved) n p refl;
+  under_fits = omega arith;
+  one_pool = nothing_differs;
+  slots = omega arith;
+  forms_fit = λ p x at. cc;
+  readers = λ p. nobody_holds (λ h. h.read) n p refl;
+  writers = λ p. nobody_holds (λ h. h.written) n p refl;
+  one_mover = λ p. nobody_holds (λ h. h.moved) n p refl;
   pins_kept = λ w h at p x d m is. (let e : None ≡ Some p = sym (ap (λ k. k.moved) (all_are_empty n w h at)) ∙ m in cc);
-  one_disk_move = refl; tasks_differ = nothing_differs; tasks_present = λ t i. cc;
+  one_disk_move = refl;
+  tasks_differ = nothing_differs;
+  tasks_present = λ t i. cc;
   tasks_kept = λ t. (let z = nobody_holds (λ h. h.task) n t refl in let g : 0 + 0 + hands_with (λ h. h.task) (replicate n empty_hand) t ≡ 0 = omega arith in g);
-  own_task = λ i. cc; no_tasks = λ i. refl;
+  own_task = λ i. cc;
+  no_tasks = λ i. refl;
 }
 
 pub fresh_kept : (limit n room : ℕ) → limit ≤ 2 ^ 30 → 0 < n → n ≤ 64 → 4096 ≤ room → IsKept (start limit n) 0 room
 fresh_kept limit n room a b c d = record {
-  small_limit = a; some_worker = (let l = length-replicate n empty_hand in omega arith); few_workers = (let l = length-replicate n empty_hand in omega arith); cut = omega arith; room_fits = d;
+  small_limit = a;
+  some_worker = (let l = length-replicate n empty_hand in omega arith);
+  few_workers = (let l = length-replicate n empty_hand in omega arith);
+  cut = omega arith;
+  room_fits = d;
   counted = (let z = no_task_count n in let g : 0 + 0 + count_by (λ h. is_some h.task) (replicate n empty_hand) ≡ 0 = omega arith in g);
 }

@@ -15,10 +15,10 @@ use Rattle.naim_core.proofs.Waves.{distinct_of}
 pub no_repeat : (ts : List ℕ) → IsDistinct nat_eq ts → has_repeat ts ≡ false
 no_repeat [] d = refl
 no_repeat (t ∷ ts) d = rw (apart t ts (IsDistinct-head nat_eq t ts d)) (no_repeat ts (IsDistinct-tail nat_eq t ts d))
-    where
-      apart : (t : ℕ) (ts : List ℕ) → AllByRecursion (λ y. nat_eq t y ≡ false) ts → is_in t ts ≡ false
-      apart t [] h = refl
-      apart t (y ∷ ts) h = rw h.0 (apart t ts h.1)
+  where
+    apart : (t : ℕ) (ts : List ℕ) → AllByRecursion (λ y. nat_eq t y ≡ false) ts → is_in t ts ≡ false
+    apart t [] h = refl
+    apart t (y ∷ ts) h = rw h.0 (apart t ts h.1)
 
 -- one order shows it as well as another
 pub repeat_permuted : (xs ys : List ℕ) → IsPermutation xs ys → has_repeat ys ≡ has_repeat xs
@@ -26,9 +26,9 @@ repeat_permuted xs ys p =
     (elim (has_repeat xs) as (λ b. has_repeat xs ≡ b → has_repeat ys ≡ b) [
       | false ↦ λ e. no_repeat ys (IsDistinct-IsPermutation nat_eq nat_eq_equiv.symm xs ys p (distinct_of xs e))
       | true ↦ λ e. (elim (has_repeat ys) as (λ b. has_repeat ys ≡ b → b ≡ true) [
-          | true ↦ λ f. refl
-          | false ↦ λ f. let n = no_repeat xs (IsDistinct-IsPermutation nat_eq nat_eq_equiv.symm ys xs (IsPermutation-sym xs ys p) (distinct_of ys f)) in cc
-        ]) refl
+        | true ↦ λ f. refl
+        | false ↦ λ f. let n = no_repeat xs (IsDistinct-IsPermutation nat_eq nat_eq_equiv.symm ys xs (IsPermutation-sym xs ys p) (distinct_of ys f)) in cc
+      ]) refl
     ]) refl
 
 -- two equal neighbours are a repeat

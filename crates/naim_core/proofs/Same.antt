@@ -64,18 +64,18 @@ running_keeps s (event.Fail w f) = record { limit = refl; workers = refl }
 
 step_keeps : (s : Core) (e : Event) → OnState s (step_of s e)
 step_keeps s e = by_stop (is_some s.failure && not (is_fail e))
-    where
-      by_stop : (b : Bool) → OnState s (if b then Err Stopped else step_running s e)
-      by_stop true = tt
-      by_stop false = running_keeps s e
+  where
+    by_stop : (b : Bool) → OnState s (if b then Err Stopped else step_running s e)
+    by_stop true = tt
+    by_stop false = running_keeps s e
 
 -- whatever the answer
 pub follows_keeps : (s : Core) (e : Event) (answer : Result (Unit {0}) Refusal) (new : Core) → Follows (step_of s e) s answer new → Keeps s new
 follows_keeps s e answer new f = by_answer (step_of s e) (step_keeps s e) f
-    where
-      by_answer : (r : Result Core Refusal) → OnState s r → Follows r s answer new → Keeps s new
-      by_answer (Ok t) k g = subst (Keeps s) (sym g.1) k
-      by_answer (Err r) k g = subst (Keeps s) (sym g.1) (record { limit = refl; workers = refl })
+  where
+    by_answer : (r : Result Core Refusal) → OnState s r → Follows r s answer new → Keeps s new
+    by_answer (Ok t) k g = subst (Keeps s) (sym g.1) k
+    by_answer (Err r) k g = subst (Keeps s) (sym g.1) (record { limit = refl; workers = refl })
 
 -- of two records, that of the smaller PID ends before the other begins
 record_before : (limit p q c : ℕ) → p < q → c ≤ limit → p * limit + c ≤ q * limit

@@ -45,10 +45,10 @@ spare_changed : (i p : ℕ) (x y : Pool) (old new : Order) (stack : List ℕ) �
     lookup (nat_eq i) old ≡ Some (Some (p, x)) → Changed i (Some (p, y)) old new → length (pools_in new) ≡ length (pools_in old) → IsSpare new stack
 spare_changed i p x y old new stack was at slots len = record {
   empty = all_weaker (λ j. lookup (nat_eq j) old ≡ Some None) (λ j. lookup (nat_eq j) old ≡ Some None) (λ j. lookup (nat_eq j) new ≡ Some None) stack
-    (λ j e _. (elim (nat_eq i j) as (λ b. nat_eq i j ≡ b → lookup (nat_eq j) new ≡ Some None) [
-      | true ↦ λ t. let same = same_number i j t in let c : Some (Some (p, x)) ≡ Some None = sym at ∙ (ap (λ k. lookup (nat_eq k) old) same ∙ e) in cc
-      | false ↦ λ t. let c = slots j in rw t at c ∙ e
-    ]) refl) was.empty was.empty;
+      (λ j e _. (elim (nat_eq i j) as (λ b. nat_eq i j ≡ b → lookup (nat_eq j) new ≡ Some None) [
+        | true ↦ λ t. let same = same_number i j t in let c : Some (Some (p, x)) ≡ Some None = sym at ∙ (ap (λ k. lookup (nat_eq k) old) same ∙ e) in cc
+        | false ↦ λ t. let c = slots j in rw t at c ∙ e
+      ]) refl) was.empty was.empty;
   differ = was.differ;
   count = ap (λ n. n + length stack) len ∙ was.count;
 }
@@ -74,10 +74,10 @@ table_front i p x y old index spare room u h u' h' t fits at du dh =
       spares = spare_changed i p x y old new (reverse spare) t.spares at slots len;
       room_fits = t.room_fits;
       under_is = (let a : sum_by under_part (values_of (pools_in new)) ≡ sum_by under_part (y ∷ values_of (remove_entry (nat_eq p) ps)) = ap under_sum is in
-        let k = sum_by-cons under_part y (values_of (remove_entry (nat_eq p) ps)) in let b = sum_removed under_part p x ps there in let c = t.under_is in omega arith);
+          let k = sum_by-cons under_part y (values_of (remove_entry (nat_eq p) ps)) in let b = sum_removed under_part p x ps there in let c = t.under_is in omega arith);
       held_fits = fits;
       held_is = (let a : sum_by held_part (values_of (pools_in new)) ≡ sum_by held_part (y ∷ values_of (remove_entry (nat_eq p) ps)) = ap held_sum is in
-        let k = sum_by-cons held_part y (values_of (remove_entry (nat_eq p) ps)) in let b = sum_removed held_part p x ps there in let c = t.held_is in omega arith);
+          let k = sum_by-cons held_part y (values_of (remove_entry (nat_eq p) ps)) in let b = sum_removed held_part p x ps there in let c = t.held_is in omega arith);
     }
 
 -- the content of a pool has changed in its place
@@ -152,16 +152,16 @@ table_added i p x old index rest room room' u h t room_fits fits none =
       };
       spares = record {
         empty = all_weaker (λ j. lookup (nat_eq j) old ≡ Some None) (λ j. nat_eq i j ≡ false) (λ j. lookup (nat_eq j) new ≡ Some None) (reverse rest)
-          (λ j e ne. let c = slots j in rw ne at c ∙ e) was.empty.1 apart_i;
+            (λ j e ne. let c = slots j in rw ne at c ∙ e) was.empty.1 apart_i;
         differ = IsDistinct-tail nat_eq i (reverse rest) was.differ;
         count = (let a = was.count in let b = ap length is in omega arith);
       };
       room_fits = room_fits;
       under_is = (let a : sum_by under_part (values_of (pools_in new)) ≡ sum_by under_part (x ∷ values_of ps) = ap under_sum is in
-        let k = sum_by-cons under_part x (values_of ps) in let c = t.under_is in omega arith);
+          let k = sum_by-cons under_part x (values_of ps) in let c = t.under_is in omega arith);
       held_fits = fits;
       held_is = (let a : sum_by held_part (values_of (pools_in new)) ≡ sum_by held_part (x ∷ values_of ps) = ap held_sum is in
-        let k = sum_by-cons held_part x (values_of ps) in let c = t.held_is in omega arith);
+          let k = sum_by-cons held_part x (values_of ps) in let c = t.held_is in omega arith);
     }
 
 -- a pool has gone, and its slot is empty
@@ -177,7 +177,7 @@ table_removed i p x old index spare room room' u h u' h' t room_fits at du dh =
     let pools : (q : ℕ) → lookup (nat_eq q) (pools_in new) ≡ cond (nat_eq p q) None (lookup (nat_eq q) ps) = λ q. ap (λ l. lookup (nat_eq q) l) is ∙ lookup_removed p q ps t.slots.pids_differ in
     let stack : reverse (spare ++ i ∷ []) ≡ i ∷ reverse spare = reverse-append spare (i ∷ []) in
     let not_i : (j : ℕ) → lookup (nat_eq j) old ≡ Some None → nat_eq i j ≡ false = λ j e. other_number i j (λ same.
-        let c : Some (Some (p, x)) ≡ Some None = sym at ∙ (ap (λ k. lookup (nat_eq k) old) same ∙ e) in cc) in
+    let c : Some (Some (p, x)) ≡ Some None = sym at ∙ (ap (λ k. lookup (nat_eq k) old) same ∙ e) in cc) in
     record {
       slots = record {
         slots_differ = distinct_front i None old t.slots.slots_differ;
@@ -201,11 +201,13 @@ table_removed i p x old index spare room room' u h u' h' t room_fits at du dh =
         ];
       };
       spares = subst (IsSpare new) (sym stack) (record {
-        empty = ((subst (λ b. lookup (nat_eq i) new ≡ cond b (Some None) (lookup (nat_eq i) old)) (number_itself i) (slots i)),
+        empty = (
+          (subst (λ b. lookup (nat_eq i) new ≡ cond b (Some None) (lookup (nat_eq i) old)) (number_itself i) (slots i)),
           all_weaker (λ j. lookup (nat_eq j) old ≡ Some None) (λ j. lookup (nat_eq j) old ≡ Some None) (λ j. lookup (nat_eq j) new ≡ Some None) (reverse spare)
-            (λ j e _. let c = slots j in rw (not_i j e) at c ∙ e) t.spares.empty t.spares.empty);
+              (λ j e _. let c = slots j in rw (not_i j e) at c ∙ e) t.spares.empty t.spares.empty,
+        );
         differ = IsDistinct-cons nat_eq i (reverse spare)
-          (all_weaker (λ j. lookup (nat_eq j) old ≡ Some None) (λ j. lookup (nat_eq j) old ≡ Some None) (λ j. nat_eq i j ≡ false) (reverse spare)
+            (all_weaker (λ j. lookup (nat_eq j) old ≡ Some None) (λ j. lookup (nat_eq j) old ≡ Some None) (λ j. nat_eq i j ≡ false) (reverse spare)
             (λ j e _. not_i j e) t.spares.empty t.spares.empty) t.spares.differ;
         count = (let a = t.spares.count in let b = length_removed p x ps there in let c = ap length is in omega arith);
       });

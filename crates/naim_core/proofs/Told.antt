@@ -44,37 +44,37 @@ pub pin_read_keeps : (s now : Core) (p w : ℕ) (x y : Pool) (h : Hand) → Met 
 pin_read_keeps s now p w x y h met ok disk home =
     let row = Rows.pin_read_row x h in let new : Pool = record x { stage = Rows.with_reader x.stage } in
     let kept : IsSound (record s { pools = front p new s.pools; hands = slice_set s.hands w (record h { read = Some p }); disk = s.disk }) =
-        pin_read_sound s p w x.stage x.e x.c h.task h.written h.read h.moved met.sound met.found (hand_there s now p w x h met) (permit_ok row new y ok) in
+    pin_read_sound s p w x.stage x.e x.c h.task h.written h.read h.moved met.sound met.found (hand_there s now p w x h met) (permit_ok row new y ok) in
     let kept' : IsSound (record s { pools = front p y s.pools; hands = slice_set s.hands w (record h { read = Some p }); disk = disk }) =
-        subst (λ d. IsSound (record s { pools = front p y s.pools; hands = slice_set s.hands w (record h { read = Some p }); disk = d })) (sym home)
-        (subst (λ z. IsSound (record s { pools = front p z s.pools; hands = slice_set s.hands w (record h { read = Some p }); disk = s.disk })) (permit_gives row new y ok) kept) in
+    subst (λ d. IsSound (record s { pools = front p y s.pools; hands = slice_set s.hands w (record h { read = Some p }); disk = d })) (sym home)
+    (subst (λ z. IsSound (record s { pools = front p z s.pools; hands = slice_set s.hands w (record h { read = Some p }); disk = s.disk })) (permit_gives row new y ok) kept) in
     subst (λ n. IsSound (record n { pools = front p y n.pools; hands = slice_set n.hands w (record h { read = Some p }); disk = disk })) met.view kept'
 
 pub pin_read_follows : (s now : Core) (p w : ℕ) (x y : Pool) (h : Hand) → Met s now p w x h → permit (Rows.pin_read_row x h) (record x { stage = Rows.with_reader x.stage }) ≡ Ok y →
-    (disk : Option ℕ) → disk ≡ (s.disk) → (t : Core) → t ≡ record now { pools = front p y now.pools; hands = slice_set now.hands w (record h { read = Some p }); disk = disk } → Follows (pin_read_step now w p ) now (Ok tt) t
+    (disk : Option ℕ) → disk ≡ (s.disk) → (t : Core) → t ≡ record now { pools = front p y now.pools; hands = slice_set now.hands w (record h { read = Some p }); disk = disk } → Follows (pin_read_step now w p) now (Ok tt) t
 pin_read_follows s now p w x y h met ok disk home t is =
     let hand = hand_is s now p w x h met in let found = met.found in
-    let step : pin_read_step s w p  ≡ Ok (record s { pools = front p y s.pools; hands = slice_set s.hands w (record h { read = Some p }); disk = disk }) = rw (found, hand, ok, home) refl in
-    let here : (u : Core) → u ≡ record s { pools = front p y s.pools; hands = slice_set s.hands w (record h { read = Some p }); disk = disk } → Follows (pin_read_step s w p ) s (Ok tt) u = λ u e. rw step (refl, e) in
-    subst (λ n. (u : Core) → u ≡ record n { pools = front p y n.pools; hands = slice_set n.hands w (record h { read = Some p }); disk = disk } → Follows (pin_read_step n w p ) n (Ok tt) u) met.view here t is
+    let step : pin_read_step s w p ≡ Ok (record s { pools = front p y s.pools; hands = slice_set s.hands w (record h { read = Some p }); disk = disk }) = rw (found, hand, ok, home) refl in
+    let here : (u : Core) → u ≡ record s { pools = front p y s.pools; hands = slice_set s.hands w (record h { read = Some p }); disk = disk } → Follows (pin_read_step s w p) s (Ok tt) u = λ u e. rw step (refl, e) in
+    subst (λ n. (u : Core) → u ≡ record n { pools = front p y n.pools; hands = slice_set n.hands w (record h { read = Some p }); disk = disk } → Follows (pin_read_step n w p) n (Ok tt) u) met.view here t is
 
 pub pin_read_refused : (s now : Core) (p w : ℕ) (x : Pool) (h : Hand) (r : Refusal) → Met s now p w x h → permit (Rows.pin_read_row x h) (record x { stage = Rows.with_reader x.stage }) ≡ Err r →
-    (answer : Result (Unit {0}) Refusal) → answer ≡ Err r → Follows (pin_read_step now w p ) now answer now
+    (answer : Result (Unit {0}) Refusal) → answer ≡ Err r → Follows (pin_read_step now w p) now answer now
 pin_read_refused s now p w x h r met ok answer is =
     let hand = hand_is s now p w x h met in let found = met.found in
-    let step : pin_read_step s w p  ≡ Err r = rw (found, hand, ok) refl in
-    let here : Follows (pin_read_step s w p ) s answer s = rw step (is, refl) in
-    subst (λ n. Follows (pin_read_step n w p ) n answer n) met.view here
+    let step : pin_read_step s w p ≡ Err r = rw (found, hand, ok) refl in
+    let here : Follows (pin_read_step s w p) s answer s = rw step (is, refl) in
+    subst (λ n. Follows (pin_read_step n w p) n answer n) met.view here
 
 pub pin_write_keeps : (s now : Core) (p w : ℕ) (room : ℕ) (x y : Pool) (h : Hand) → Met s now p w x h → permit (Rows.pin_write_row x h s.in_wave p room) (record x { stage = stage.Written room }) ≡ Ok y →
     (disk : Option ℕ) → disk ≡ (s.disk) → IsSound (record now { pools = front p y now.pools; hands = slice_set now.hands w (record h { written = Some p }); disk = disk })
 pin_write_keeps s now p w room x y h met ok disk home =
     let row = Rows.pin_write_row x h s.in_wave p room in let new : Pool = record x { stage = stage.Written room } in
     let kept : IsSound (record s { pools = front p new s.pools; hands = slice_set s.hands w (record h { written = Some p }); disk = s.disk }) =
-        pin_write_sound s p w room x.stage x.e x.c h.task h.written h.read h.moved met.sound met.found (hand_there s now p w x h met) (permit_ok row new y ok) in
+    pin_write_sound s p w room x.stage x.e x.c h.task h.written h.read h.moved met.sound met.found (hand_there s now p w x h met) (permit_ok row new y ok) in
     let kept' : IsSound (record s { pools = front p y s.pools; hands = slice_set s.hands w (record h { written = Some p }); disk = disk }) =
-        subst (λ d. IsSound (record s { pools = front p y s.pools; hands = slice_set s.hands w (record h { written = Some p }); disk = d })) (sym home)
-        (subst (λ z. IsSound (record s { pools = front p z s.pools; hands = slice_set s.hands w (record h { written = Some p }); disk = s.disk })) (permit_gives row new y ok) kept) in
+    subst (λ d. IsSound (record s { pools = front p y s.pools; hands = slice_set s.hands w (record h { written = Some p }); disk = d })) (sym home)
+    (subst (λ z. IsSound (record s { pools = front p z s.pools; hands = slice_set s.hands w (record h { written = Some p }); disk = s.disk })) (permit_gives row new y ok) kept) in
     subst (λ n. IsSound (record n { pools = front p y n.pools; hands = slice_set n.hands w (record h { written = Some p }); disk = disk })) met.view kept'
 
 pub pin_write_follows : (s now : Core) (p w : ℕ) (room : ℕ) (x y : Pool) (h : Hand) → Met s now p w x h → permit (Rows.pin_write_row x h s.in_wave p room) (record x { stage = stage.Written room }) ≡ Ok y →
@@ -98,10 +98,10 @@ pub reload_begin_keeps : (s now : Core) (p w : ℕ) (m : Mode) (x y : Pool) (h :
 reload_begin_keeps s now p w m x y h met ok disk home =
     let row = Rows.reload_begin_row x h s.in_wave p m s.disk in let new : Pool = record x { stage = stage.Reloading m (is_offloaded x.stage) } in
     let kept : IsSound (record s { pools = in_place p new s.pools; hands = slice_set s.hands w (take_pin m p h); disk = if is_offloaded x.stage then Some w else s.disk }) =
-        reload_begin_sound s p w m x.stage x.e x.c h.task h.written h.read h.moved met.sound met.found (hand_there s now p w x h met) (permit_ok row new y ok) in
+    reload_begin_sound s p w m x.stage x.e x.c h.task h.written h.read h.moved met.sound met.found (hand_there s now p w x h met) (permit_ok row new y ok) in
     let kept' : IsSound (record s { pools = in_place p y s.pools; hands = slice_set s.hands w (take_pin m p h); disk = disk }) =
-        subst (λ d. IsSound (record s { pools = in_place p y s.pools; hands = slice_set s.hands w (take_pin m p h); disk = d })) (sym home)
-        (subst (λ z. IsSound (record s { pools = in_place p z s.pools; hands = slice_set s.hands w (take_pin m p h); disk = if is_offloaded x.stage then Some w else s.disk })) (permit_gives row new y ok) kept) in
+    subst (λ d. IsSound (record s { pools = in_place p y s.pools; hands = slice_set s.hands w (take_pin m p h); disk = d })) (sym home)
+    (subst (λ z. IsSound (record s { pools = in_place p z s.pools; hands = slice_set s.hands w (take_pin m p h); disk = if is_offloaded x.stage then Some w else s.disk })) (permit_gives row new y ok) kept) in
     subst (λ n. IsSound (record n { pools = in_place p y n.pools; hands = slice_set n.hands w (take_pin m p h); disk = disk })) met.view kept'
 
 pub reload_begin_follows : (s now : Core) (p w : ℕ) (m : Mode) (x y : Pool) (h : Hand) → Met s now p w x h → permit (Rows.reload_begin_row x h s.in_wave p m s.disk) (record x { stage = stage.Reloading m (is_offloaded x.stage) }) ≡ Ok y →
@@ -125,37 +125,37 @@ pub reload_end_keeps : (s now : Core) (p w : ℕ) (x y : Pool) (h : Hand) → Me
 reload_end_keeps s now p w x y h met ok disk home =
     let row = Rows.reload_end_row x h p in let new : Pool = record x { stage = Rows.reloaded x.stage } in
     let kept : IsSound (record s { pools = front p new s.pools; hands = slice_set s.hands w (record h { moved = None }); disk = if moves_by_disk x.stage then None else s.disk }) =
-        reload_end_sound s p w x.stage x.e x.c h.task h.written h.read h.moved met.sound met.found (hand_there s now p w x h met) (permit_ok row new y ok) in
+    reload_end_sound s p w x.stage x.e x.c h.task h.written h.read h.moved met.sound met.found (hand_there s now p w x h met) (permit_ok row new y ok) in
     let kept' : IsSound (record s { pools = front p y s.pools; hands = slice_set s.hands w (record h { moved = None }); disk = disk }) =
-        subst (λ d. IsSound (record s { pools = front p y s.pools; hands = slice_set s.hands w (record h { moved = None }); disk = d })) (sym home)
-        (subst (λ z. IsSound (record s { pools = front p z s.pools; hands = slice_set s.hands w (record h { moved = None }); disk = if moves_by_disk x.stage then None else s.disk })) (permit_gives row new y ok) kept) in
+    subst (λ d. IsSound (record s { pools = front p y s.pools; hands = slice_set s.hands w (record h { moved = None }); disk = d })) (sym home)
+    (subst (λ z. IsSound (record s { pools = front p z s.pools; hands = slice_set s.hands w (record h { moved = None }); disk = if moves_by_disk x.stage then None else s.disk })) (permit_gives row new y ok) kept) in
     subst (λ n. IsSound (record n { pools = front p y n.pools; hands = slice_set n.hands w (record h { moved = None }); disk = disk })) met.view kept'
 
 pub reload_end_follows : (s now : Core) (p w : ℕ) (x y : Pool) (h : Hand) → Met s now p w x h → permit (Rows.reload_end_row x h p) (record x { stage = Rows.reloaded x.stage }) ≡ Ok y →
-    (disk : Option ℕ) → disk ≡ (if moves_by_disk x.stage then None else s.disk) → (t : Core) → t ≡ record now { pools = front p y now.pools; hands = slice_set now.hands w (record h { moved = None }); disk = disk } → Follows (reload_end_step now w p ) now (Ok tt) t
+    (disk : Option ℕ) → disk ≡ (if moves_by_disk x.stage then None else s.disk) → (t : Core) → t ≡ record now { pools = front p y now.pools; hands = slice_set now.hands w (record h { moved = None }); disk = disk } → Follows (reload_end_step now w p) now (Ok tt) t
 reload_end_follows s now p w x y h met ok disk home t is =
     let hand = hand_is s now p w x h met in let found = met.found in
-    let step : reload_end_step s w p  ≡ Ok (record s { pools = front p y s.pools; hands = slice_set s.hands w (record h { moved = None }); disk = disk }) = rw (found, hand, ok, home) refl in
-    let here : (u : Core) → u ≡ record s { pools = front p y s.pools; hands = slice_set s.hands w (record h { moved = None }); disk = disk } → Follows (reload_end_step s w p ) s (Ok tt) u = λ u e. rw step (refl, e) in
-    subst (λ n. (u : Core) → u ≡ record n { pools = front p y n.pools; hands = slice_set n.hands w (record h { moved = None }); disk = disk } → Follows (reload_end_step n w p ) n (Ok tt) u) met.view here t is
+    let step : reload_end_step s w p ≡ Ok (record s { pools = front p y s.pools; hands = slice_set s.hands w (record h { moved = None }); disk = disk }) = rw (found, hand, ok, home) refl in
+    let here : (u : Core) → u ≡ record s { pools = front p y s.pools; hands = slice_set s.hands w (record h { moved = None }); disk = disk } → Follows (reload_end_step s w p) s (Ok tt) u = λ u e. rw step (refl, e) in
+    subst (λ n. (u : Core) → u ≡ record n { pools = front p y n.pools; hands = slice_set n.hands w (record h { moved = None }); disk = disk } → Follows (reload_end_step n w p) n (Ok tt) u) met.view here t is
 
 pub reload_end_refused : (s now : Core) (p w : ℕ) (x : Pool) (h : Hand) (r : Refusal) → Met s now p w x h → permit (Rows.reload_end_row x h p) (record x { stage = Rows.reloaded x.stage }) ≡ Err r →
-    (answer : Result (Unit {0}) Refusal) → answer ≡ Err r → Follows (reload_end_step now w p ) now answer now
+    (answer : Result (Unit {0}) Refusal) → answer ≡ Err r → Follows (reload_end_step now w p) now answer now
 reload_end_refused s now p w x h r met ok answer is =
     let hand = hand_is s now p w x h met in let found = met.found in
-    let step : reload_end_step s w p  ≡ Err r = rw (found, hand, ok) refl in
-    let here : Follows (reload_end_step s w p ) s answer s = rw step (is, refl) in
-    subst (λ n. Follows (reload_end_step n w p ) n answer n) met.view here
+    let step : reload_end_step s w p ≡ Err r = rw (found, hand, ok) refl in
+    let here : Follows (reload_end_step s w p) s answer s = rw step (is, refl) in
+    subst (λ n. Follows (reload_end_step n w p) n answer n) met.view here
 
 pub unpin_read_keeps : (s now : Core) (p w : ℕ) (f : Form) (x y : Pool) (h : Hand) → Met s now p w x h → permit (Rows.unpin_read_row s.limit (under_sum s.pools) x h p f) (record x { stage = Rows.without_reader f x.stage }) ≡ Ok y →
     (disk : Option ℕ) → disk ≡ (s.disk) → IsSound (record now { pools = front p y now.pools; hands = slice_set now.hands w (record h { read = None }); disk = disk })
 unpin_read_keeps s now p w f x y h met ok disk home =
     let row = Rows.unpin_read_row s.limit (under_sum s.pools) x h p f in let new : Pool = record x { stage = Rows.without_reader f x.stage } in
     let kept : IsSound (record s { pools = front p new s.pools; hands = slice_set s.hands w (record h { read = None }); disk = s.disk }) =
-        unpin_read_sound s p w f x.stage x.e x.c h.task h.written h.read h.moved met.sound met.found (hand_there s now p w x h met) (permit_ok row new y ok) in
+    unpin_read_sound s p w f x.stage x.e x.c h.task h.written h.read h.moved met.sound met.found (hand_there s now p w x h met) (permit_ok row new y ok) in
     let kept' : IsSound (record s { pools = front p y s.pools; hands = slice_set s.hands w (record h { read = None }); disk = disk }) =
-        subst (λ d. IsSound (record s { pools = front p y s.pools; hands = slice_set s.hands w (record h { read = None }); disk = d })) (sym home)
-        (subst (λ z. IsSound (record s { pools = front p z s.pools; hands = slice_set s.hands w (record h { read = None }); disk = s.disk })) (permit_gives row new y ok) kept) in
+    subst (λ d. IsSound (record s { pools = front p y s.pools; hands = slice_set s.hands w (record h { read = None }); disk = d })) (sym home)
+    (subst (λ z. IsSound (record s { pools = front p z s.pools; hands = slice_set s.hands w (record h { read = None }); disk = s.disk })) (permit_gives row new y ok) kept) in
     subst (λ n. IsSound (record n { pools = front p y n.pools; hands = slice_set n.hands w (record h { read = None }); disk = disk })) met.view kept'
 
 pub unpin_read_follows : (s now : Core) (p w : ℕ) (f : Form) (x y : Pool) (h : Hand) → Met s now p w x h → permit (Rows.unpin_read_row s.limit (under_sum s.pools) x h p f) (record x { stage = Rows.without_reader f x.stage }) ≡ Ok y →
@@ -179,10 +179,10 @@ pub compact_begin_keeps : (s now : Core) (p w : ℕ) (wanted : ℕ) (x y : Pool)
 compact_begin_keeps s now p w wanted x y h met ok disk home =
     let row = Rows.compact_begin_row s.limit (under_sum s.pools) (victim s.pools) x h p wanted in let new : Pool = record x { stage = stage.Compacting } in
     let kept : IsSound (record s { pools = in_place p new s.pools; hands = slice_set s.hands w (record h { moved = Some p }); disk = s.disk }) =
-        compact_begin_sound s p w wanted x.stage x.e x.c h.task h.written h.read h.moved met.sound met.found (hand_there s now p w x h met) (permit_ok row new y ok) in
+    compact_begin_sound s p w wanted x.stage x.e x.c h.task h.written h.read h.moved met.sound met.found (hand_there s now p w x h met) (permit_ok row new y ok) in
     let kept' : IsSound (record s { pools = in_place p y s.pools; hands = slice_set s.hands w (record h { moved = Some p }); disk = disk }) =
-        subst (λ d. IsSound (record s { pools = in_place p y s.pools; hands = slice_set s.hands w (record h { moved = Some p }); disk = d })) (sym home)
-        (subst (λ z. IsSound (record s { pools = in_place p z s.pools; hands = slice_set s.hands w (record h { moved = Some p }); disk = s.disk })) (permit_gives row new y ok) kept) in
+    subst (λ d. IsSound (record s { pools = in_place p y s.pools; hands = slice_set s.hands w (record h { moved = Some p }); disk = d })) (sym home)
+    (subst (λ z. IsSound (record s { pools = in_place p z s.pools; hands = slice_set s.hands w (record h { moved = Some p }); disk = s.disk })) (permit_gives row new y ok) kept) in
     subst (λ n. IsSound (record n { pools = in_place p y n.pools; hands = slice_set n.hands w (record h { moved = Some p }); disk = disk })) met.view kept'
 
 pub compact_begin_follows : (s now : Core) (p w : ℕ) (wanted : ℕ) (x y : Pool) (h : Hand) → Met s now p w x h → permit (Rows.compact_begin_row s.limit (under_sum s.pools) (victim s.pools) x h p wanted) (record x { stage = stage.Compacting }) ≡ Ok y →
@@ -206,37 +206,37 @@ pub compact_end_keeps : (s now : Core) (p w : ℕ) (x y : Pool) (h : Hand) → M
 compact_end_keeps s now p w x y h met ok disk home =
     let row = Rows.compact_end_row x h p in let new : Pool = record x { stage = stage.Compacted } in
     let kept : IsSound (record s { pools = in_place p new s.pools; hands = slice_set s.hands w (record h { moved = None }); disk = s.disk }) =
-        compact_end_sound s p w x.stage x.e x.c h.task h.written h.read h.moved met.sound met.found (hand_there s now p w x h met) (permit_ok row new y ok) in
+    compact_end_sound s p w x.stage x.e x.c h.task h.written h.read h.moved met.sound met.found (hand_there s now p w x h met) (permit_ok row new y ok) in
     let kept' : IsSound (record s { pools = in_place p y s.pools; hands = slice_set s.hands w (record h { moved = None }); disk = disk }) =
-        subst (λ d. IsSound (record s { pools = in_place p y s.pools; hands = slice_set s.hands w (record h { moved = None }); disk = d })) (sym home)
-        (subst (λ z. IsSound (record s { pools = in_place p z s.pools; hands = slice_set s.hands w (record h { moved = None }); disk = s.disk })) (permit_gives row new y ok) kept) in
+    subst (λ d. IsSound (record s { pools = in_place p y s.pools; hands = slice_set s.hands w (record h { moved = None }); disk = d })) (sym home)
+    (subst (λ z. IsSound (record s { pools = in_place p z s.pools; hands = slice_set s.hands w (record h { moved = None }); disk = s.disk })) (permit_gives row new y ok) kept) in
     subst (λ n. IsSound (record n { pools = in_place p y n.pools; hands = slice_set n.hands w (record h { moved = None }); disk = disk })) met.view kept'
 
 pub compact_end_follows : (s now : Core) (p w : ℕ) (x y : Pool) (h : Hand) → Met s now p w x h → permit (Rows.compact_end_row x h p) (record x { stage = stage.Compacted }) ≡ Ok y →
-    (disk : Option ℕ) → disk ≡ (s.disk) → (t : Core) → t ≡ record now { pools = in_place p y now.pools; hands = slice_set now.hands w (record h { moved = None }); disk = disk } → Follows (compact_end_step now w p ) now (Ok tt) t
+    (disk : Option ℕ) → disk ≡ (s.disk) → (t : Core) → t ≡ record now { pools = in_place p y now.pools; hands = slice_set now.hands w (record h { moved = None }); disk = disk } → Follows (compact_end_step now w p) now (Ok tt) t
 compact_end_follows s now p w x y h met ok disk home t is =
     let hand = hand_is s now p w x h met in let found = met.found in
-    let step : compact_end_step s w p  ≡ Ok (record s { pools = in_place p y s.pools; hands = slice_set s.hands w (record h { moved = None }); disk = disk }) = rw (found, hand, ok, home) refl in
-    let here : (u : Core) → u ≡ record s { pools = in_place p y s.pools; hands = slice_set s.hands w (record h { moved = None }); disk = disk } → Follows (compact_end_step s w p ) s (Ok tt) u = λ u e. rw step (refl, e) in
-    subst (λ n. (u : Core) → u ≡ record n { pools = in_place p y n.pools; hands = slice_set n.hands w (record h { moved = None }); disk = disk } → Follows (compact_end_step n w p ) n (Ok tt) u) met.view here t is
+    let step : compact_end_step s w p ≡ Ok (record s { pools = in_place p y s.pools; hands = slice_set s.hands w (record h { moved = None }); disk = disk }) = rw (found, hand, ok, home) refl in
+    let here : (u : Core) → u ≡ record s { pools = in_place p y s.pools; hands = slice_set s.hands w (record h { moved = None }); disk = disk } → Follows (compact_end_step s w p) s (Ok tt) u = λ u e. rw step (refl, e) in
+    subst (λ n. (u : Core) → u ≡ record n { pools = in_place p y n.pools; hands = slice_set n.hands w (record h { moved = None }); disk = disk } → Follows (compact_end_step n w p) n (Ok tt) u) met.view here t is
 
 pub compact_end_refused : (s now : Core) (p w : ℕ) (x : Pool) (h : Hand) (r : Refusal) → Met s now p w x h → permit (Rows.compact_end_row x h p) (record x { stage = stage.Compacted }) ≡ Err r →
-    (answer : Result (Unit {0}) Refusal) → answer ≡ Err r → Follows (compact_end_step now w p ) now answer now
+    (answer : Result (Unit {0}) Refusal) → answer ≡ Err r → Follows (compact_end_step now w p) now answer now
 compact_end_refused s now p w x h r met ok answer is =
     let hand = hand_is s now p w x h met in let found = met.found in
-    let step : compact_end_step s w p  ≡ Err r = rw (found, hand, ok) refl in
-    let here : Follows (compact_end_step s w p ) s answer s = rw step (is, refl) in
-    subst (λ n. Follows (compact_end_step n w p ) n answer n) met.view here
+    let step : compact_end_step s w p ≡ Err r = rw (found, hand, ok) refl in
+    let here : Follows (compact_end_step s w p) s answer s = rw step (is, refl) in
+    subst (λ n. Follows (compact_end_step n w p) n answer n) met.view here
 
 pub offload_begin_keeps : (s now : Core) (p w : ℕ) (wanted : ℕ) (x y : Pool) (h : Hand) → Met s now p w x h → permit (Rows.offload_begin_row s.limit (under_sum s.pools) (victim s.pools) x h p wanted s.disk) (record x { stage = stage.Offloading }) ≡ Ok y →
     (disk : Option ℕ) → disk ≡ (Some w) → IsSound (record now { pools = in_place p y now.pools; hands = slice_set now.hands w (record h { moved = Some p }); disk = disk })
 offload_begin_keeps s now p w wanted x y h met ok disk home =
     let row = Rows.offload_begin_row s.limit (under_sum s.pools) (victim s.pools) x h p wanted s.disk in let new : Pool = record x { stage = stage.Offloading } in
     let kept : IsSound (record s { pools = in_place p new s.pools; hands = slice_set s.hands w (record h { moved = Some p }); disk = Some w }) =
-        offload_begin_sound s p w wanted x.stage x.e x.c h.task h.written h.read h.moved met.sound met.found (hand_there s now p w x h met) (permit_ok row new y ok) in
+    offload_begin_sound s p w wanted x.stage x.e x.c h.task h.written h.read h.moved met.sound met.found (hand_there s now p w x h met) (permit_ok row new y ok) in
     let kept' : IsSound (record s { pools = in_place p y s.pools; hands = slice_set s.hands w (record h { moved = Some p }); disk = disk }) =
-        subst (λ d. IsSound (record s { pools = in_place p y s.pools; hands = slice_set s.hands w (record h { moved = Some p }); disk = d })) (sym home)
-        (subst (λ z. IsSound (record s { pools = in_place p z s.pools; hands = slice_set s.hands w (record h { moved = Some p }); disk = Some w })) (permit_gives row new y ok) kept) in
+    subst (λ d. IsSound (record s { pools = in_place p y s.pools; hands = slice_set s.hands w (record h { moved = Some p }); disk = d })) (sym home)
+    (subst (λ z. IsSound (record s { pools = in_place p z s.pools; hands = slice_set s.hands w (record h { moved = Some p }); disk = Some w })) (permit_gives row new y ok) kept) in
     subst (λ n. IsSound (record n { pools = in_place p y n.pools; hands = slice_set n.hands w (record h { moved = Some p }); disk = disk })) met.view kept'
 
 pub offload_begin_follows : (s now : Core) (p w : ℕ) (wanted : ℕ) (x y : Pool) (h : Hand) → Met s now p w x h → permit (Rows.offload_begin_row s.limit (under_sum s.pools) (victim s.pools) x h p wanted s.disk) (record x { stage = stage.Offloading }) ≡ Ok y →
@@ -260,27 +260,27 @@ pub offload_end_keeps : (s now : Core) (p w : ℕ) (x y : Pool) (h : Hand) → M
 offload_end_keeps s now p w x y h met ok disk home =
     let row = Rows.offload_end_row x h p in let new : Pool = record x { stage = stage.Offloaded } in
     let kept : IsSound (record s { pools = in_place p new s.pools; hands = slice_set s.hands w (record h { moved = None }); disk = None }) =
-        offload_end_sound s p w x.stage x.e x.c h.task h.written h.read h.moved met.sound met.found (hand_there s now p w x h met) (permit_ok row new y ok) in
+    offload_end_sound s p w x.stage x.e x.c h.task h.written h.read h.moved met.sound met.found (hand_there s now p w x h met) (permit_ok row new y ok) in
     let kept' : IsSound (record s { pools = in_place p y s.pools; hands = slice_set s.hands w (record h { moved = None }); disk = disk }) =
-        subst (λ d. IsSound (record s { pools = in_place p y s.pools; hands = slice_set s.hands w (record h { moved = None }); disk = d })) (sym home)
-        (subst (λ z. IsSound (record s { pools = in_place p z s.pools; hands = slice_set s.hands w (record h { moved = None }); disk = None })) (permit_gives row new y ok) kept) in
+    subst (λ d. IsSound (record s { pools = in_place p y s.pools; hands = slice_set s.hands w (record h { moved = None }); disk = d })) (sym home)
+    (subst (λ z. IsSound (record s { pools = in_place p z s.pools; hands = slice_set s.hands w (record h { moved = None }); disk = None })) (permit_gives row new y ok) kept) in
     subst (λ n. IsSound (record n { pools = in_place p y n.pools; hands = slice_set n.hands w (record h { moved = None }); disk = disk })) met.view kept'
 
 pub offload_end_follows : (s now : Core) (p w : ℕ) (x y : Pool) (h : Hand) → Met s now p w x h → permit (Rows.offload_end_row x h p) (record x { stage = stage.Offloaded }) ≡ Ok y →
-    (disk : Option ℕ) → disk ≡ (None) → (t : Core) → t ≡ record now { pools = in_place p y now.pools; hands = slice_set now.hands w (record h { moved = None }); disk = disk } → Follows (offload_end_step now w p ) now (Ok tt) t
+    (disk : Option ℕ) → disk ≡ (None) → (t : Core) → t ≡ record now { pools = in_place p y now.pools; hands = slice_set now.hands w (record h { moved = None }); disk = disk } → Follows (offload_end_step now w p) now (Ok tt) t
 offload_end_follows s now p w x y h met ok disk home t is =
     let hand = hand_is s now p w x h met in let found = met.found in
-    let step : offload_end_step s w p  ≡ Ok (record s { pools = in_place p y s.pools; hands = slice_set s.hands w (record h { moved = None }); disk = disk }) = rw (found, hand, ok, home) refl in
-    let here : (u : Core) → u ≡ record s { pools = in_place p y s.pools; hands = slice_set s.hands w (record h { moved = None }); disk = disk } → Follows (offload_end_step s w p ) s (Ok tt) u = λ u e. rw step (refl, e) in
-    subst (λ n. (u : Core) → u ≡ record n { pools = in_place p y n.pools; hands = slice_set n.hands w (record h { moved = None }); disk = disk } → Follows (offload_end_step n w p ) n (Ok tt) u) met.view here t is
+    let step : offload_end_step s w p ≡ Ok (record s { pools = in_place p y s.pools; hands = slice_set s.hands w (record h { moved = None }); disk = disk }) = rw (found, hand, ok, home) refl in
+    let here : (u : Core) → u ≡ record s { pools = in_place p y s.pools; hands = slice_set s.hands w (record h { moved = None }); disk = disk } → Follows (offload_end_step s w p) s (Ok tt) u = λ u e. rw step (refl, e) in
+    subst (λ n. (u : Core) → u ≡ record n { pools = in_place p y n.pools; hands = slice_set n.hands w (record h { moved = None }); disk = disk } → Follows (offload_end_step n w p) n (Ok tt) u) met.view here t is
 
 pub offload_end_refused : (s now : Core) (p w : ℕ) (x : Pool) (h : Hand) (r : Refusal) → Met s now p w x h → permit (Rows.offload_end_row x h p) (record x { stage = stage.Offloaded }) ≡ Err r →
-    (answer : Result (Unit {0}) Refusal) → answer ≡ Err r → Follows (offload_end_step now w p ) now answer now
+    (answer : Result (Unit {0}) Refusal) → answer ≡ Err r → Follows (offload_end_step now w p) now answer now
 offload_end_refused s now p w x h r met ok answer is =
     let hand = hand_is s now p w x h met in let found = met.found in
-    let step : offload_end_step s w p  ≡ Err r = rw (found, hand, ok) refl in
-    let here : Follows (offload_end_step s w p ) s answer s = rw step (is, refl) in
-    subst (λ n. Follows (offload_end_step n w p ) n answer n) met.view here
+    let step : offload_end_step s w p ≡ Err r = rw (found, hand, ok) refl in
+    let here : Follows (offload_end_step s w p) s answer s = rw step (is, refl) in
+    subst (λ n. Follows (offload_end_step n w p) n answer n) met.view here
 
 -- a reload leaves the task as it is
 pub pin_task : (m : Mode) (p : ℕ) (h : Hand) → (take_pin m p h).task ≡ h.task
@@ -298,7 +298,7 @@ unpin_write_done s now p w f e c x y h met ok task =
     let row = Rows.unpin_write_row s.limit (under_sum s.pools) x h p f e c in let new : Pool = Rows.inserted f e c in let g : Hand = record h { written = None; task = None } in
     let kept = unpin_write_sound s p w f e c x.stage x.e x.c h.task h.written h.read h.moved met.sound met.found (hand_there s now p w x h met) (permit_ok row new y ok) g (s.done ++ p ∷ []) refl refl refl (done_counts s p h.task task) in
     let kept' : IsSound (record s { pools = front p y s.pools; hands = slice_set s.hands w g; done = s.done ++ p ∷ [] }) =
-        subst (λ z. IsSound (record s { pools = front p z s.pools; hands = slice_set s.hands w g; done = s.done ++ p ∷ [] })) (permit_gives row new y ok) kept in
+    subst (λ z. IsSound (record s { pools = front p z s.pools; hands = slice_set s.hands w g; done = s.done ++ p ∷ [] })) (permit_gives row new y ok) kept in
     subst (λ n. IsSound (record n { pools = front p y n.pools; hands = slice_set n.hands w g; done = n.done ++ p ∷ [] })) met.view kept'
 
 pub unpin_write_other : (s now : Core) (p w : ℕ) (f : Form) (e c : ℕ) (x y : Pool) (h : Hand) → Met s now p w x h → permit (Rows.unpin_write_row s.limit (under_sum s.pools) x h p f e c) (Rows.inserted f e c) ≡ Ok y →
@@ -307,8 +307,8 @@ unpin_write_other s now p w f e c x y h met ok disk home =
     let row = Rows.unpin_write_row s.limit (under_sum s.pools) x h p f e c in let new : Pool = Rows.inserted f e c in let g : Hand = record h { written = None } in
     let kept = unpin_write_sound s p w f e c x.stage x.e x.c h.task h.written h.read h.moved met.sound met.found (hand_there s now p w x h met) (permit_ok row new y ok) g s.done refl refl refl (λ q. refl) in
     let kept' : IsSound (record s { pools = front p y s.pools; hands = slice_set s.hands w g; disk = disk }) =
-        subst (λ d. IsSound (record s { pools = front p y s.pools; hands = slice_set s.hands w g; disk = d })) (sym home)
-        (subst (λ z. IsSound (record s { pools = front p z s.pools; hands = slice_set s.hands w g; disk = s.disk })) (permit_gives row new y ok) kept) in
+    subst (λ d. IsSound (record s { pools = front p y s.pools; hands = slice_set s.hands w g; disk = d })) (sym home)
+    (subst (λ z. IsSound (record s { pools = front p z s.pools; hands = slice_set s.hands w g; disk = s.disk })) (permit_gives row new y ok) kept) in
     subst (λ n. IsSound (record n { pools = front p y n.pools; hands = slice_set n.hands w g; disk = disk })) met.view kept'
 
 pub unpin_write_follows_done : (s now : Core) (p w : ℕ) (f : Form) (e c : ℕ) (x y : Pool) (h : Hand) → Met s now p w x h → permit (Rows.unpin_write_row s.limit (under_sum s.pools) x h p f e c) (Rows.inserted f e c) ≡ Ok y → h.task ≡ Some p →

@@ -38,16 +38,16 @@ remove_sound s p x sound at still free idle =
     let rest = at_rest x.stage still free in
     let found : (q : ℕ) → pool_at (remove_entry (nat_eq p) s.pools) q ≡ cond (nat_eq p q) None (pool_at s.pools q) = λ q. lookup_removed p q s.pools sound.one_pool in
     let same : (number : Stage → ℕ) → number x.stage ≡ 0 → (q n : ℕ) → n ≡ wanted_by number (pool_at s.pools q) → n ≡ wanted_by number (pool_at (remove_entry (nat_eq p) s.pools) q) = λ number zero_at q n was.
-        (elim (nat_eq p q) as (λ b. nat_eq p q ≡ b → n ≡ wanted_by number (pool_at (remove_entry (nat_eq p) s.pools) q)) [
-          | true ↦ λ t. let k = found q in let k' = rw t at k in let e = same_number p q t in
-              was ∙ (ap (λ i. wanted_by number (pool_at s.pools i)) (sym e) ∙ ap (wanted_by number) at ∙ zero_at) ∙ sym (ap (wanted_by number) k')
-          | false ↦ λ t. let k = found q in let k' = rw t at k in was ∙ sym (ap (wanted_by number) k')
-        ]) refl in
+    (elim (nat_eq p q) as (λ b. nat_eq p q ≡ b → n ≡ wanted_by number (pool_at (remove_entry (nat_eq p) s.pools) q)) [
+      | true ↦ λ t. let k = found q in let k' = rw t at k in let e = same_number p q t in
+          was ∙ (ap (λ i. wanted_by number (pool_at s.pools i)) (sym e) ∙ ap (wanted_by number) at ∙ zero_at) ∙ sym (ap (wanted_by number) k')
+      | false ↦ λ t. let k = found q in let k' = rw t at k in was ∙ sym (ap (wanted_by number) k')
+    ]) refl in
     let was_there : (q : ℕ) (y : Pool) → pool_at (remove_entry (nat_eq p) s.pools) q ≡ Some y → pool_at s.pools q ≡ Some y = λ q y is.
-        (elim (nat_eq p q) as (λ b. nat_eq p q ≡ b → pool_at s.pools q ≡ Some y) [
-          | true ↦ λ t. let k = found q in let k' = rw t at k in let c : None ≡ Some y = sym k' ∙ is in cc
-          | false ↦ λ t. let k = found q in let k' = rw t at k in sym k' ∙ is
-        ]) refl in
+    (elim (nat_eq p q) as (λ b. nat_eq p q ≡ b → pool_at s.pools q ≡ Some y) [
+      | true ↦ λ t. let k = found q in let k' = rw t at k in let c : None ≡ Some y = sym k' ∙ is in cc
+      | false ↦ λ t. let k = found q in let k' = rw t at k in sym k' ∙ is
+    ]) refl in
     record {
       under_fits = (let a = sum_removed under_part p x s.pools at in let b = sound.under_fits in omega arith);
       one_pool = distinct_removed p s.pools sound.one_pool;
@@ -72,12 +72,17 @@ same_hands place hands w h g at same q = let c = count_set (λ k. holds (place k
 pub claim_sound : (s : Core) (w t : ℕ) (rest : List ℕ) (h : Hand) → IsSound s → slice_get s.hands w ≡ Some h → h.task ≡ None → s.unclaimed ≡ t ∷ rest →
     IsSound (record s { hands = slice_set s.hands w (record h { task = Some t }); unclaimed = rest })
 claim_sound s w t rest h sound at none next = let g : Hand = record h { task = Some t } in record {
-  under_fits = sound.under_fits; one_pool = sound.one_pool; slots = sound.slots; forms_fit = sound.forms_fit;
+  under_fits = sound.under_fits;
+  one_pool = sound.one_pool;
+  slots = sound.slots;
+  forms_fit = sound.forms_fit;
   readers = λ q. same_hands (λ k. k.read) s.hands w h g at refl q ∙ sound.readers q;
   writers = λ q. same_hands (λ k. k.written) s.hands w h g at refl q ∙ sound.writers q;
   one_mover = λ q. same_hands (λ k. k.moved) s.hands w h g at refl q ∙ sound.one_mover q;
   pins_kept = all_set (KeepsPin s.pools) s.hands w g (sound.pins_kept w h at) sound.pins_kept;
-  one_disk_move = sound.one_disk_move; tasks_differ = sound.tasks_differ; tasks_present = sound.tasks_present;
+  one_disk_move = sound.one_disk_move;
+  tasks_differ = sound.tasks_differ;
+  tasks_present = sound.tasks_present;
   tasks_kept = λ q. (let c = count_set (λ k. holds k.task q) s.hands w h g at in let a : one (holds h.task q) ≡ 0 = ap (λ o. one (holds o q)) none in
       let e = ap (count_by (nat_eq q)) next in let f = sum_by-cons (λ i. one (nat_eq q i)) t rest in let k = sound.tasks_kept q in let y = ap one (nat_eq_equiv.symm q t) in omega arith);
   own_task = λ i. let was = sound.own_task i in all_set (λ k. (q : ℕ) → k.written ≡ Some q → k.task ≡ Some q) s.hands w g (λ q e. let c : None ≡ Some q = sym none ∙ was w h at q e in cc) was;
@@ -86,11 +91,11 @@ claim_sound s w t rest h sound at none next = let g : Hand = record h { task = S
 
 pub empty_parts : (h : Hand) → is_empty_hand h ≡ true → (h.task ≡ None) × (h.written ≡ None)
 empty_parts h e = parts h.task h.written h.read h.moved e
-    where
-      parts : (t wr r m : Option ℕ) → (is_none t && is_none wr && is_none r && is_none m) ≡ true → (t ≡ None) × (wr ≡ None)
-      parts None None r m k = (refl, refl)
-      parts (Some t) wr r m k = absurd (true≢false (sym k))
-      parts None (Some wr) r m k = absurd (true≢false (sym k))
+  where
+    parts : (t wr r m : Option ℕ) → (is_none t && is_none wr && is_none r && is_none m) ≡ true → (t ≡ None) × (wr ≡ None)
+    parts None None r m k = (refl, refl)
+    parts (Some t) wr r m k = absurd (true≢false (sym k))
+    parts None (Some wr) r m k = absurd (true≢false (sym k))
 
 pub no_task_held : (hands : List Hand) → list_all is_empty_hand hands ≡ true → (q : ℕ) → hands_with (λ h. h.task) hands q ≡ 0
 no_task_held [] e q = refl
@@ -112,13 +117,14 @@ none_written (g ∷ hands) e (suc n) h at = let both = both_hold (is_empty_hand 
 pub distinct_of : (ts : List ℕ) → has_repeat ts ≡ false → IsDistinct nat_eq ts
 distinct_of [] h = IsDistinct-from_apart nat_eq [] (λ i j d lt k. absurd (omega arith))
 distinct_of (t ∷ ts) h = let both = both_false (is_in t ts) (has_repeat ts) h in IsDistinct-cons nat_eq t ts (apart_all t ts both.0) (distinct_of ts both.1)
-    where
-      both_false : (a b : Bool) → (a || b) ≡ false → (a ≡ false) × (b ≡ false)
-      both_false false b h = (refl, h)
-      both_false true b h = cc
-      apart_all : (t : ℕ) (ts : List ℕ) → is_in t ts ≡ false → AllByRecursion (λ y. nat_eq t y ≡ false) ts
-      apart_all t [] h = tt
-      apart_all t (y ∷ ts) h = let both = both_false (nat_eq t y) (is_in t ts) h in (both.0, apart_all t ts both.1)
+  where
+    both_false : (a b : Bool) → (a || b) ≡ false → (a ≡ false) × (b ≡ false)
+    both_false false b h = (refl, h)
+    both_false true b h = cc
+
+    apart_all : (t : ℕ) (ts : List ℕ) → is_in t ts ≡ false → AllByRecursion (λ y. nat_eq t y ≡ false) ts
+    apart_all t [] h = tt
+    apart_all t (y ∷ ts) h = let both = both_false (nat_eq t y) (is_in t ts) h in (both.0, apart_all t ts both.1)
 
 pub all_present : (s : Core) (ts : List ℕ) → list_any (λ t. is_none (pool_at s.pools t)) ts ≡ false → (t : ℕ) → is_in t ts ≡ true → IsSome (pool_at s.pools t)
 all_present s [] h t i = cc
@@ -126,18 +132,27 @@ all_present s (y ∷ ts) h t i = (elim (nat_eq t y) as (λ b. nat_eq t y ≡ b �
   | true ↦ λ e k. subst (λ q. IsSome (pool_at s.pools q)) (sym (same_number t y e)) (some_of (pool_at s.pools y) (either (is_none (pool_at s.pools y)) _ h).0)
   | false ↦ λ e k. all_present s ts (either (is_none (pool_at s.pools y)) _ h).1 t k
 ]) refl i
-    where
-      either : (a b : Bool) → (a || b) ≡ false → (a ≡ false) × (b ≡ false)
-      either false b h = (refl, h)
-      either true b h = cc
-      some_of : (o : Option Pool) → is_none o ≡ false → IsSome o
-      some_of (Some x) h = refl
-      some_of None h = cc
+  where
+    either : (a b : Bool) → (a || b) ≡ false → (a ≡ false) × (b ≡ false)
+    either false b h = (refl, h)
+    either true b h = cc
+
+    some_of : (o : Option Pool) → is_none o ≡ false → IsSome o
+    some_of (Some x) h = refl
+    some_of None h = cc
 
 pub begin_wave_sound : (s : Core) (ts : List ℕ) → IsSound s → list_any (λ t. is_none (pool_at s.pools t)) ts ≡ false → has_repeat ts ≡ false → list_all is_empty_hand s.hands ≡ true →
     IsSound (record s { in_wave = true; tasks = ts; unclaimed = ts; done = [] })
 begin_wave_sound s ts sound present once idle = record {
-  under_fits = sound.under_fits; one_pool = sound.one_pool; slots = sound.slots; forms_fit = sound.forms_fit; readers = sound.readers; writers = sound.writers; one_mover = sound.one_mover; pins_kept = sound.pins_kept; one_disk_move = sound.one_disk_move;
+  under_fits = sound.under_fits;
+  one_pool = sound.one_pool;
+  slots = sound.slots;
+  forms_fit = sound.forms_fit;
+  readers = sound.readers;
+  writers = sound.writers;
+  one_mover = sound.one_mover;
+  pins_kept = sound.pins_kept;
+  one_disk_move = sound.one_disk_move;
   tasks_differ = distinct_of ts once;
   tasks_present = all_present s ts present;
   tasks_kept = λ t. (let n = no_task_held s.hands idle t in let g : count_by (nat_eq t) ts + 0 + hands_with (λ h. h.task) s.hands t ≡ count_by (nat_eq t) ts = omega arith in g);
@@ -147,7 +162,15 @@ begin_wave_sound s ts sound present once idle = record {
 
 pub end_wave_sound : (s : Core) → IsSound s → list_all is_empty_hand s.hands ≡ true → IsSound (record s { in_wave = false; tasks = []; unclaimed = []; done = [] })
 end_wave_sound s sound idle = record {
-  under_fits = sound.under_fits; one_pool = sound.one_pool; slots = sound.slots; forms_fit = sound.forms_fit; readers = sound.readers; writers = sound.writers; one_mover = sound.one_mover; pins_kept = sound.pins_kept; one_disk_move = sound.one_disk_move;
+  under_fits = sound.under_fits;
+  one_pool = sound.one_pool;
+  slots = sound.slots;
+  forms_fit = sound.forms_fit;
+  readers = sound.readers;
+  writers = sound.writers;
+  one_mover = sound.one_mover;
+  pins_kept = sound.pins_kept;
+  one_disk_move = sound.one_disk_move;
   tasks_differ = distinct_of [] refl;
   tasks_present = λ t i. absurd (true≢false (sym i));
   tasks_kept = λ t. (let n = no_task_held s.hands idle t in let g : 0 + 0 + hands_with (λ h. h.task) s.hands t ≡ 0 = omega arith in g);

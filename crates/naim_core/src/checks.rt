@@ -88,7 +88,13 @@ pub(crate) fn pin_read(pool: Pool, hand: Hand) -> Result<Pool, Refusal>
 }
 
 /// A writer; in a wave the pool has to be the worker's task.
-pub(crate) fn pin_write(pool: Pool, hand: Hand, in_wave: bool, pid: u32, room: u64) -> Result<Pool, Refusal>
+pub(crate) fn pin_write(
+    pool: Pool,
+    hand: Hand,
+    in_wave: bool,
+    pid: u32,
+    room: u64,
+) -> Result<Pool, Refusal>
     ensures { result ≡ permit (Rows.pin_write_row pool hand in_wave pid room) (record pool { stage = Stage.Written room }) }
 {
     if hand.written.is_some() {
@@ -173,7 +179,14 @@ pub(crate) fn reload_end(pool: Pool, hand: Hand, pid: u32) -> Result<Pool, Refus
 }
 
 /// One reader less; the last leaves the pool in the form.
-pub(crate) fn unpin_read(limit: u64, under: u64, pool: Pool, hand: Hand, pid: u32, form: Form) -> Result<Pool, Refusal>
+pub(crate) fn unpin_read(
+    limit: u64,
+    under: u64,
+    pool: Pool,
+    hand: Hand,
+    pid: u32,
+    form: Form,
+) -> Result<Pool, Refusal>
     requires fits { under ≤ limit }
     requires read { IsFitStage pool.stage }
     ensures { result ≡ permit (Rows.unpin_read_row limit under pool hand pid form) (record pool { stage = Rows.without_reader form pool.stage }) }
@@ -303,10 +316,10 @@ pub(crate) fn offload_begin(
     if disk.is_some() {
         return Err(Refusal::DiskOut);
     }
-    if wanted <= limit - under {
+    if limit - under >= wanted {
         return Err(Refusal::Fits);
     }
-    if victim != Some(pid) {
+    if Some(pid) != victim {
         return Err(Refusal::NotVictim);
     }
     Ok(Pool {
@@ -329,7 +342,15 @@ pub(crate) fn offload_end(pool: Pool, hand: Hand, pid: u32) -> Result<Pool, Refu
 }
 
 /// A new pool, where none with its PID is there and `used` pools are.
-pub(crate) fn insert(limit: u64, under: u64, present: bool, used: u32, form: Form, e: u64, c: u32) -> Result<Pool, Refusal>
+pub(crate) fn insert(
+    limit: u64,
+    under: u64,
+    present: bool,
+    used: u32,
+    form: Form,
+    e: u64,
+    c: u32,
+) -> Result<Pool, Refusal>
     requires { under ≤ limit }
     ensures { result ≡ permit (Rows.insert_row limit under present used form e c) (Rows.inserted form e c) }
 {

@@ -23,37 +23,89 @@ pub enum Mode {
 #[derive(Debug, Drop)]
 pub enum Event {
     /// A new pool, free in the form.
-    Insert { pid: u32, form: Form, e: u64, c: u32 },
+    Insert {
+        pid: u32,
+        form: Form,
+        e: u64,
+        c: u32,
+    },
     /// A pool goes.
-    Remove { pid: u32 },
+    Remove {
+        pid: u32,
+    },
     /// A wave begins with these tasks.
-    BeginWave { tasks: Seq<u32> },
+    BeginWave {
+        tasks: Seq<u32>,
+    },
     /// The wave ends.
     EndWave,
     /// The worker takes the first task that nobody claimed.
-    Claim { worker: u32 },
+    Claim {
+        worker: u32,
+    },
     /// The worker reads a body.
-    PinRead { worker: u32, pid: u32 },
+    PinRead {
+        worker: u32,
+        pid: u32,
+    },
     /// The worker writes a body, whose new value takes at most `room` bytes.
-    PinWrite { worker: u32, pid: u32, room: u64 },
+    PinWrite {
+        worker: u32,
+        pid: u32,
+        room: u64,
+    },
     /// The worker begins to expand a pool, from its compact bytes or from the disk.
-    ReloadBegin { worker: u32, pid: u32, mode: Mode },
+    ReloadBegin {
+        worker: u32,
+        pid: u32,
+        mode: Mode,
+    },
     /// The pool is expanded and pinned by the worker.
-    ReloadEnd { worker: u32, pid: u32 },
+    ReloadEnd {
+        worker: u32,
+        pid: u32,
+    },
     /// The worker reads no longer. The last reader leaves the pool in the form.
-    UnpinRead { worker: u32, pid: u32, form: Form },
+    UnpinRead {
+        worker: u32,
+        pid: u32,
+        form: Form,
+    },
     /// The worker has written a new value, which it leaves in the form.
-    UnpinWrite { worker: u32, pid: u32, form: Form, e: u64, c: u32 },
+    UnpinWrite {
+        worker: u32,
+        pid: u32,
+        form: Form,
+        e: u64,
+        c: u32,
+    },
     /// The worker begins to compact the victim.
-    CompactBegin { worker: u32, pid: u32, wanted: u64 },
+    CompactBegin {
+        worker: u32,
+        pid: u32,
+        wanted: u64,
+    },
     /// The pool is compacted.
-    CompactEnd { worker: u32, pid: u32 },
+    CompactEnd {
+        worker: u32,
+        pid: u32,
+    },
     /// The worker begins to write the victim to the disk.
-    OffloadBegin { worker: u32, pid: u32, wanted: u64 },
+    OffloadBegin {
+        worker: u32,
+        pid: u32,
+        wanted: u64,
+    },
     /// The pool lies on the disk alone.
-    OffloadEnd { worker: u32, pid: u32 },
+    OffloadEnd {
+        worker: u32,
+        pid: u32,
+    },
     /// The worker tells a failure. The first one is kept, and no event but `Fail` follows.
-    Fail { worker: u32, failure: Failure },
+    Fail {
+        worker: u32,
+        failure: Failure,
+    },
 }
 
 impl Event {
@@ -108,13 +160,25 @@ pub enum Failure {
     /// The disk failed.
     Repository,
     /// A record has other bytes than those filed: their SHA-256 and the one kept differ.
-    Damaged { place: u64, kept: [u8; 32], found: [u8; 32] },
+    Damaged {
+        place: u64,
+        kept: [u8; 32],
+        found: [u8; 32],
+    },
     /// A record's bytes spell no body.
-    Unreadable { place: u64 },
+    Unreadable {
+        place: u64,
+    },
     /// A body is not fit for the job.
-    Unfit { pid: u32 },
+    Unfit {
+        pid: u32,
+    },
     /// A compact form is longer than the limit.
-    TooSmall { pid: u32, need: u32, limit: u64 },
+    TooSmall {
+        pid: u32,
+        need: u32,
+        limit: u64,
+    },
     /// Memory was wanting.
     Memory,
 }

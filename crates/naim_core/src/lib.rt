@@ -7,8 +7,8 @@
 
 mod checks;
 mod event;
-mod pool;
 mod history;
+mod pool;
 mod scratch;
 mod state;
 mod table;
@@ -16,6 +16,6 @@ mod table;
 mod tests;
 
 pub use event::{Event, Failure, Form, Mode, Refusal};
-pub use pool::{Pool, PoolForm, PoolView, Stage};
 pub use history::replay;
+pub use pool::{Pool, PoolForm, PoolView, Stage};
 pub use state::{CoreState, Hand};

@@ -222,16 +222,20 @@ impl CoreState {
         let hand = self.hands[worker as usize];
         let disk = self.disk;
         let next = checks::unpin_read(self.limit, self.pools.under(), pool, hand, pid, form)?;
-        let hand = Hand {
-            read: None,
-            ..hand
-        };
+        let hand = Hand { read: None, ..hand };
         self.change_first(worker, pid, next, hand, disk);
         Ok(())
     }
 
     /// A writer's new value; in a wave the worker's task is done.
-    fn unpin_write(&mut self, worker: u32, pid: u32, form: Form, e: u64, c: u32) -> Result<(), Refusal>
+    fn unpin_write(
+        &mut self,
+        worker: u32,
+        pid: u32,
+        form: Form,
+        e: u64,
+        c: u32,
+    ) -> Result<(), Refusal>
         requires { worker < length self.old.hands }
         ensures { Follows (unpin_write_step self.old worker pid form e c) self.old result self.new }
     {
@@ -240,7 +244,16 @@ impl CoreState {
         };
         let hand = self.hands[worker as usize];
         let disk = self.disk;
-        let next = checks::unpin_write(self.limit, self.pools.under(), pool, hand, pid, form, e, c)?;
+        let next = checks::unpin_write(
+            self.limit,
+            self.pools.under(),
+            pool,
+            hand,
+            pid,
+            form,
+            e,
+            c,
+        )?;
         let hand = Hand {
             written: None,
             ..hand
@@ -263,7 +276,15 @@ impl CoreState {
         };
         let hand = self.hands[worker as usize];
         let disk = self.disk;
-        let next = checks::compact_begin(self.limit, self.pools.under(), self.pools.victim(), pool, hand, pid, wanted)?;
+        let next = checks::compact_begin(
+            self.limit,
+            self.pools.under(),
+            self.pools.victim(),
+            pool,
+            hand,
+            pid,
+            wanted,
+        )?;
         let hand = Hand {
             moved: Some(pid),
             ..hand
@@ -301,7 +322,16 @@ impl CoreState {
         };
         let hand = self.hands[worker as usize];
         let disk = self.disk;
-        let next = checks::offload_begin(self.limit, self.pools.under(), self.pools.victim(), pool, hand, pid, wanted, disk)?;
+        let next = checks::offload_begin(
+            self.limit,
+            self.pools.under(),
+            self.pools.victim(),
+            pool,
+            hand,
+            pid,
+            wanted,
+            disk,
+        )?;
         let hand = Hand {
             moved: Some(pid),
             ..hand
@@ -334,7 +364,15 @@ impl CoreState {
         ensures { Follows (insert_step self.old pid form e c) self.old result self.new }
     {
         let present = self.pools.get(pid).is_some();
-        let pool = checks::insert(self.limit, self.pools.under(), present, self.pools.len(), form, e, c)?;
+        let pool = checks::insert(
+            self.limit,
+            self.pools.under(),
+            present,
+            self.pools.len(),
+            form,
+            e,
+            c,
+        )?;
         self.pools.add(pid, pool);
         Ok(())
     }

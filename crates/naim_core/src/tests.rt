@@ -24,42 +24,138 @@ fn compact_form_above_the_limit(rt: HostRuntime) {
 fn each_event_and_each_refusal(rt: HostRuntime) {
     let wave = vec![in rt.alloc(); 3, 2].expect(&rt, "memory");
     let events = vec![in rt.alloc();
-        Event::Insert { pid: 1, form: Form::Expanded, e: 40, c: 10 },
-        Event::Insert { pid: 1, form: Form::Expanded, e: 40, c: 10 },
-        Event::Insert { pid: 2, form: Form::Expanded, e: 30, c: 20 },
-        Event::Insert { pid: 3, form: Form::Expanded, e: 50, c: 20 },
-        Event::Insert { pid: 3, form: Form::Compacted, e: 300, c: 101 },
-        Event::Insert { pid: 3, form: Form::Compacted, e: 5, c: 9 },
-        Event::Insert { pid: 3, form: Form::Compacted, e: 25, c: 20 },
+        Event::Insert {
+            pid: 1,
+            form: Form::Expanded,
+            e: 40,
+            c: 10
+        },
+        Event::Insert {
+            pid: 1,
+            form: Form::Expanded,
+            e: 40,
+            c: 10
+        },
+        Event::Insert {
+            pid: 2,
+            form: Form::Expanded,
+            e: 30,
+            c: 20
+        },
+        Event::Insert {
+            pid: 3,
+            form: Form::Expanded,
+            e: 50,
+            c: 20
+        },
+        Event::Insert {
+            pid: 3,
+            form: Form::Compacted,
+            e: 300,
+            c: 101
+        },
+        Event::Insert {
+            pid: 3,
+            form: Form::Compacted,
+            e: 5,
+            c: 9
+        },
+        Event::Insert {
+            pid: 3,
+            form: Form::Compacted,
+            e: 25,
+            c: 20
+        },
         Event::PinRead { worker: 0, pid: 9 },
         Event::PinRead { worker: 0, pid: 3 },
         Event::PinRead { worker: 0, pid: 1 },
         Event::PinRead { worker: 0, pid: 2 },
         Event::PinRead { worker: 1, pid: 1 },
-        Event::PinWrite { worker: 1, pid: 1, room: 90 },
+        Event::PinWrite {
+            worker: 1,
+            pid: 1,
+            room: 90
+        },
         Event::Remove { pid: 1 },
-        Event::CompactBegin { worker: 0, pid: 2, wanted: 10 },
-        Event::CompactBegin { worker: 0, pid: 1, wanted: 90 },
-        Event::CompactBegin { worker: 0, pid: 2, wanted: 90 },
+        Event::CompactBegin {
+            worker: 0,
+            pid: 2,
+            wanted: 10
+        },
+        Event::CompactBegin {
+            worker: 0,
+            pid: 1,
+            wanted: 90
+        },
+        Event::CompactBegin {
+            worker: 0,
+            pid: 2,
+            wanted: 90
+        },
         Event::Remove { pid: 2 },
         Event::CompactEnd { worker: 1, pid: 2 },
         Event::CompactEnd { worker: 0, pid: 2 },
-        Event::OffloadBegin { worker: 0, pid: 2, wanted: 90 },
-        Event::OffloadBegin { worker: 1, pid: 3, wanted: 90 },
+        Event::OffloadBegin {
+            worker: 0,
+            pid: 2,
+            wanted: 90
+        },
+        Event::OffloadBegin {
+            worker: 1,
+            pid: 3,
+            wanted: 90
+        },
         Event::OffloadEnd { worker: 0, pid: 2 },
-        Event::ReloadBegin { worker: 1, pid: 2, mode: Mode::Write { room: 60 } },
+        Event::ReloadBegin {
+            worker: 1,
+            pid: 2,
+            mode: Mode::Write { room: 60 }
+        },
         Event::ReloadEnd { worker: 1, pid: 2 },
-        Event::UnpinWrite { worker: 1, pid: 2, form: Form::Expanded, e: 50, c: 20 },
-        Event::UnpinRead { worker: 0, pid: 1, form: Form::Expanded },
-        Event::UnpinRead { worker: 1, pid: 1, form: Form::Expanded },
-        Event::UnpinWrite { worker: 1, pid: 2, form: Form::Expanded, e: 40, c: 20 },
-        Event::UnpinRead { worker: 1, pid: 1, form: Form::Expanded },
-        Event::BeginWave { tasks: Seq::from_vec(wave) },
+        Event::UnpinWrite {
+            worker: 1,
+            pid: 2,
+            form: Form::Expanded,
+            e: 50,
+            c: 20
+        },
+        Event::UnpinRead {
+            worker: 0,
+            pid: 1,
+            form: Form::Expanded
+        },
+        Event::UnpinRead {
+            worker: 1,
+            pid: 1,
+            form: Form::Expanded
+        },
+        Event::UnpinWrite {
+            worker: 1,
+            pid: 2,
+            form: Form::Expanded,
+            e: 40,
+            c: 20
+        },
+        Event::UnpinRead {
+            worker: 1,
+            pid: 1,
+            form: Form::Expanded
+        },
+        Event::BeginWave {
+            tasks: Seq::from_vec(wave)
+        },
         Event::EndWave,
         Event::Claim { worker: 0 },
         Event::Claim { worker: 0 },
-        Event::PinWrite { worker: 0, pid: 2, room: 9 },
-        Event::Fail { worker: 0, failure: Failure::Memory },
+        Event::PinWrite {
+            worker: 0,
+            pid: 2,
+            room: 9
+        },
+        Event::Fail {
+            worker: 0,
+            failure: Failure::Memory
+        },
         Event::EndWave,
     ]
     .expect(&rt, "memory");

@@ -62,7 +62,15 @@ fn pair_comes_back(rt: HostRuntime) {
     assert_eq!(rt; pair.charge(), 10);
     assert_eq!(rt; pair.compact_len(), 2);
     let back = round_trip(rt.alloc(), &pair);
-    assert!(rt; matches!(back, Ok(Some(Pair { first: 7, second: 200 }))));
+    assert!(rt;
+        matches!(
+            back,
+            Ok(Some(Pair {
+                first: 7,
+                second: 200
+            }))
+        )
+    );
     let long = Pair::decode(rt.alloc(), &[7, 200, 1]);
     assert!(rt; matches!(long, Ok(None)));
 }

@@ -11,5 +11,5 @@ invariant-loop-event l = record {
   replies_are : l.replies.items ++ replies_to l.state l.event-iterator.rest.items ≡ replies_to (start l.limit l.workers) l.fn.events.items;
   named : EachNames l.workers l.event-iterator.rest.items;
   sound : IsSound l.state;
-  workers_stay : length l.state.hands ≡ l.workers
+  workers_stay : length l.state.hands ≡ l.workers;
 }

@@ -14,12 +14,12 @@ returns-then-sorted-i c =
 
 pub loop-i-preserved : goal.loop-i-preserved
 loop-i-preserved c = λ k h. let low = c.loop-i.auto.i in elim (last_or_before k c.loop-i.i h low) [
-    | inl below ↦ c.loop-i.invariant k below
-    | inr at ↦ λ same. c.if-sorted-i.false (ap (λ n. get_or c.args.sorted.now n 0) (sym at.0) ∙ same ∙ ap (λ n. get_or c.args.sorted.now n 0) at.1)
-  ]
-    where
-      last_or_before : (k i : ℕ) → k + 1 < i + 1 → 1 ≤ i → (k + 1 < i) ⊎ ((k ≡ i - 1) × (k + 1 ≡ i))
-      last_or_before k i h low = elim (cases_lt (k + 1) i) [ inl a ↦ inl a | inr b ↦ inr (omega arith, omega arith) ]
+  | inl below ↦ c.loop-i.invariant k below
+  | inr at ↦ λ same. c.if-sorted-i.false (ap (λ n. get_or c.args.sorted.now n 0) (sym at.0) ∙ same ∙ ap (λ n. get_or c.args.sorted.now n 0) at.1)
+]
+  where
+    last_or_before : (k i : ℕ) → k + 1 < i + 1 → 1 ≤ i → (k + 1 < i) ⊎ ((k ≡ i - 1) × (k + 1 ≡ i))
+    last_or_before k i h low = elim (cases_lt (k + 1) i) [ inl a ↦ inl a | inr b ↦ inr (omega arith, omega arith) ]
 
 pub returns : goal.returns
 returns c = let over = c.loop-i-test.false in sym (no_repeat_sorted c.args.sorted.now c.requires (λ k d h same.

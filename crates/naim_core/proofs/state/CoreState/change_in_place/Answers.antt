@@ -19,6 +19,7 @@ put-requires-clause-held_fits c = (sums_fit (core_of c.self.inside) _ c.args.pid
 pub invariant_of-self : goal.invariant_of-self
 invariant_of-self c =
     let below = subst (λ n. c.args.worker < length n.hands) (sym c.self.view_is) c.requires.worker in
-    let task = subst (λ n. c.args.hand.task ≡ (hand_at n.hands c.args.worker).task) (sym c.self.view_is) c.requires.task in
-    (rw c.put.ensures (subst (λ n. IsSound (record n { pools = in_place c.args.pid c.args.pool n.pools; hands = slice_set n.hands c.args.worker c.args.hand; disk = c.args.disk })) (sym c.self.view_is) c.requires.sound),
-      kept_hand (core_of c.self.inside) c.self.inside.next (vec_capacity c.self.inside.done) c.args.worker c.put.new.self c.args.hand c.args.disk c.self.invariant.1 below (ap is_some task))
+    let task = subst (λ n. c.args.hand.task ≡ (hand_at n.hands c.args.worker).task) (sym c.self.view_is) c.requires.task in (
+      rw c.put.ensures (subst (λ n. IsSound (record n { pools = in_place c.args.pid c.args.pool n.pools; hands = slice_set n.hands c.args.worker c.args.hand; disk = c.args.disk })) (sym c.self.view_is) c.requires.sound),
+      kept_hand (core_of c.self.inside) c.self.inside.next (vec_capacity c.self.inside.done) c.args.worker c.put.new.self c.args.hand c.args.disk c.self.invariant.1 below (ap is_some task),
+    )

@@ -20,9 +20,10 @@ returns-then-len c =
 
 pub invariant_of-self : goal.invariant_of-self
 invariant_of-self c =
-    let idle = subst (λ n. list_all is_empty_hand n.hands ≡ true) (sym c.self.view_is) (sym c.if-not-hands_are_empty.ensures) in
-    (rw (c.clear.ensures.items, c.clear-2.ensures.items) (end_wave_sound (core_of c.self.inside) c.self.invariant.0 idle),
-      rw (c.clear.ensures.items, c.clear-2.ensures.items) (kept_wave (core_of c.self.inside) c.self.inside.next (vec_capacity c.self.inside.done) (vec_capacity c.clear-2.new.self) [] false c.self.invariant.1 (let e = c.clear-2.ensures.capacity in omega arith) idle))
+    let idle = subst (λ n. list_all is_empty_hand n.hands ≡ true) (sym c.self.view_is) (sym c.if-not-hands_are_empty.ensures) in (
+      rw (c.clear.ensures.items, c.clear-2.ensures.items) (end_wave_sound (core_of c.self.inside) c.self.invariant.0 idle),
+      rw (c.clear.ensures.items, c.clear-2.ensures.items) (kept_wave (core_of c.self.inside) c.self.inside.next (vec_capacity c.self.inside.done) (vec_capacity c.clear-2.new.self) [] false c.self.invariant.1 (let e = c.clear-2.ensures.capacity in omega arith) idle),
+    )
 
 pub returns : goal.returns
 returns c =

@@ -24,6 +24,7 @@ pub invariant_of-self : goal.invariant_of-self
 invariant_of-self c =
     let below = subst (λ n. c.args.worker < length n.hands) (sym c.self.view_is) c.requires.worker in
     let task = subst (λ n. (hand_at n.hands c.args.worker).task ≡ Some c.args.pid) (sym c.self.view_is) c.requires.task in
-    let items = rw c.unwrap.ensures at c.push.ensures.items in
-    (rw (c.put_first.ensures, items) (subst (λ n. IsSound (record n { pools = front c.args.pid c.args.pool n.pools; hands = slice_set n.hands c.args.worker c.args.hand; done = n.done ++ c.args.pid ∷ [] })) (sym c.self.view_is) c.requires.sound),
-      rw items (kept_done (core_of c.self.inside) c.self.inside.next (vec_capacity c.self.inside.done) (vec_capacity c.push.new.self) c.args.worker c.args.pid c.put_first.new.self c.args.hand c.self.invariant.1 c.push.ensures.capacity below task c.requires.left))
+    let items = rw c.unwrap.ensures at c.push.ensures.items in (
+      rw (c.put_first.ensures, items) (subst (λ n. IsSound (record n { pools = front c.args.pid c.args.pool n.pools; hands = slice_set n.hands c.args.worker c.args.hand; done = n.done ++ c.args.pid ∷ [] })) (sym c.self.view_is) c.requires.sound),
+      rw items (kept_done (core_of c.self.inside) c.self.inside.next (vec_capacity c.self.inside.done) (vec_capacity c.push.new.self) c.args.worker c.args.pid c.put_first.new.self c.args.hand c.self.invariant.1 c.push.ensures.capacity below task c.requires.left),
+    )

@@ -19,7 +19,7 @@ invariant_of-self c =
     let cap = c.pop.ensures.capacity in let room = c.self.invariant.room_fits in let u = c.under_part.ensures in let h = c.held_part.ensures in
     let fits : c.self.inside.held + held_part c.args.pool < 2 ^ 64 = (let v = c.requires.held_fits in let k = c.self.invariant.held_is ∙ ap held_sum c.self.view_is in omega arith) in
     let new = table_added c.unwrap-slot.result c.args.pid c.args.pool c.self.inside.order.entries c.self.inside.index.items c.pop.new.self.items (vec_capacity c.self.inside.spare) (vec_capacity c.pop.new.self) c.self.inside.under c.self.inside.held t (omega arith) fits
-        (ap (λ ps. pool_at ps c.args.pid) c.self.view_is ∙ c.requires.absent) in
+    (ap (λ ps. pool_at ps c.args.pid) c.self.view_is ∙ c.requires.absent) in
     rw (is, c.note.ensures, u, h) new
 
 pub returns : goal.returns

@@ -12,11 +12,12 @@ loop-slot-init c = let a = c.in_ok-order.ensures in let u = c.unwrap-slots.ensur
 pub loop-slot-preserved : goal.loop-slot-preserved
 loop-slot-preserved c =
     let a = c.in_ok-put.ensures.entries in let i = c.loop-slot.invariant in let d = c.in_ok-push.ensures.capacity in
-    let below = c.loop-slot-test.true in
-    (ap (λ o. o.cap) a ∙ i.0,
+    let below = c.loop-slot-test.true in (
+      ap (λ o. o.cap) a ∙ i.0,
       ap (λ o. o.entries) a ∙ ap (λ es. put_entries nat_eq (record { entries = es; cap = c.loop-slot.order.cap }) c.loop-slot.slot None) i.1 ∙ put_next c.loop-slot.slot c.loop-slot.order.cap (let e = i.0 in omega arith),
       c.in_ok-push.ensures.items ∙ ap (λ xs. xs ++ c.loop-slot.slot ∷ []) i.2 ∙ sym (numbers_next c.loop-slot.slot),
-      omega arith)
+      omega arith,
+    )
 
 pub invariant_of-result : goal.invariant_of-result
 invariant_of-result c =

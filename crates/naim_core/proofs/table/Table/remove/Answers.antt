@@ -31,7 +31,7 @@ invariant_of-self c =
     let u = under_there c.unwrap-slot.result.0 c.args.pid c.unwrap-slot.result.1 _ _ _ _ _ _ c.self.invariant at in
     let h = held_there c.unwrap-slot.result.0 c.args.pid c.unwrap-slot.result.1 _ _ _ _ _ _ c.self.invariant at in
     let new = table_removed c.unwrap-slot.result.0 c.args.pid c.unwrap-slot.result.1 c.self.inside.order.entries c.self.inside.index.items c.self.inside.spare.items (vec_capacity c.self.inside.spare) (vec_capacity c.push.new.self) c.self.inside.under c.self.inside.held
-        (c.self.inside.under - c.under_part.result) (c.self.inside.held - c.held_part.result) c.self.invariant (omega arith) at (omega arith) (omega arith) in
+    (c.self.inside.under - c.under_part.result) (c.self.inside.held - c.held_part.result) c.self.invariant (omega arith) at (omega arith) (omega arith) in
     rw (is, c.note.ensures, items) new
 
 pub returns : goal.returns

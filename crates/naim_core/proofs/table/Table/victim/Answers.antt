@@ -18,9 +18,12 @@ loop-place-preserved-in-Some-place c =
     let tail = c.loop-place.invariant.0 in
     let e : ℕ × Pool = (c.in-Some-place.pid, c.in-Some-place.pool) in
     let met = back_step c.args.self.now c.loop-place.place-iterator.iter c.next.new.self.iter c.in-Some.field-0-0.now c.in-Some.place.now tail c.loop-place.invariant.1 c.in-Some.ensures.steps in
-    let met' : c.args.self.now ≡ pools_in c.next.new.self.iter ++ (e ∷ tail) = rw c.in-Some-place.is at met in
-    (e ∷ tail, met', free_more e tail c.loop-place.invariant.2 (sym c.is_free.ensures ∙ c.if-is_free.false),
-      rw (c.or-compacted.ensures, c.then_some.ensures, c.is_compacted.ensures) (compacted_more c.loop-place.compacted e tail c.loop-place.invariant.3))
+    let met' : c.args.self.now ≡ pools_in c.next.new.self.iter ++ (e ∷ tail) = rw c.in-Some-place.is at met in (
+      e ∷ tail,
+      met',
+      free_more e tail c.loop-place.invariant.2 (sym c.is_free.ensures ∙ c.if-is_free.false),
+      rw (c.or-compacted.ensures, c.then_some.ensures, c.is_compacted.ensures) (compacted_more c.loop-place.compacted e tail c.loop-place.invariant.3),
+    )
 
 pub loop-place-preserved : goal.loop-place-preserved
 loop-place-preserved c =
