@@ -21,6 +21,31 @@ fn compact_form_above_the_limit(rt: HostRuntime) {
 }
 
 #[test]
+fn no_slot_is_left(rt: HostRuntime) {
+    let made = CoreState::new(rt.alloc(), 5000, 1);
+    assert!(rt; made.is_ok());
+    if let Ok(mut state) = made {
+        for pid in 0..4096 {
+            let insert = Event::Insert {
+                pid,
+                form: Form::Compacted,
+                e: 1,
+                c: 1,
+            };
+            assert!(rt; state.step(insert) == Ok(()));
+        }
+        let one_more = Event::Insert {
+            pid: 4096,
+            form: Form::Compacted,
+            e: 1,
+            c: 1,
+        };
+        assert!(rt; state.step(one_more) == Err(Refusal::Full));
+        assert_eq!(rt; state.used(), 4096);
+    }
+}
+
+#[test]
 fn each_event_and_each_refusal(rt: HostRuntime) {
     let wave = vec![in rt.alloc(); 3, 2].expect(&rt, "memory");
     let events = vec![in rt.alloc();
