@@ -1,0 +1,4 @@
+pub mod Shapes
+pub mod Routine
+pub mod Size
+pub mod Limits
