@@ -2,3 +2,6 @@ pub mod Shapes
 pub mod Routine
 pub mod Size
 pub mod Limits
+pub mod Program
+pub mod World
+pub mod Meaning

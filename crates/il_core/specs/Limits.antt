@@ -1,5 +1,5 @@
 -- The limits that each routine keeps.
-use Rattle.std.specs.Prelude.{ℕ, ◌^◌, ◌<◌, ◌≤◌, IsTrue, List, length, sum, ⊤}
+use Rattle.std.specs.Prelude.{ℕ, ◌^◌, ◌<◌, ◌≤◌, IsTrue, length, sum, ⊤}
 use Rattle.std.specs.List.{AllByRecursion}
 use Rattle.hlo_num.specs.Words.{is_narrow}
 use Rattle.il_core.specs.declared.instr.Block.{Block}
