@@ -1,7 +1,10 @@
-pub mod Shapes
-pub mod Routine
-pub mod Size
 pub mod Limits
-pub mod Program
-pub mod World
 pub mod Meaning
+pub mod Object
+pub mod Program
+pub mod Routine
+pub mod Shapes
+pub mod Size
+pub mod Text
+pub mod Valid
+pub mod World
