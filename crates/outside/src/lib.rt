@@ -1,0 +1,15 @@
+//! The outside world: where bytes are read from and written to, how each of its objects counts its
+//! faults, and the two loops that all else reads and writes by, [`read_whole`] and [`write_all`].
+#![tactic(auto)]
+
+mod disk;
+mod fault;
+mod gate;
+mod shelf;
+mod sink;
+
+pub use disk::Disk;
+pub use fault::Failed;
+pub use gate::{Gate, Moment};
+pub use shelf::{ReadFault, Shelf, read_whole};
+pub use sink::{Sink, write_all};
