@@ -108,6 +108,10 @@ enter call back n (x ∷ xs) b k t f w =
 abbrev pub Recorder : Type 0 → Type 0
 Recorder S = ℕ → ℕ → ℕ → S → S
 
+-- notes nothing
+abbrev pub no_log : {S : Type 0} → Recorder S
+no_log caller site callee log = log
+
 abbrev pub noted : {S : Type 0} → Recorder S → ℕ → ℕ → ℕ → World S → World S
 noted note p k q w = record w { log = note p k q w.log }
 
@@ -140,7 +144,7 @@ act_noting note p q args w = begin (exec note p (suc w.turns)) (routine_at p.rou
 
 -- the same with no log
 abbrev pub act : IlProgram → ℕ → List ℕ → World (Unit {0}) → Outcome (Unit {0})
-act p q args w = act_noting (λ caller site callee log. log) p q args w
+act p q args w = act_noting no_log p q args w
 
 -- the world as the program starts
 abbrev pub at_start : {S : Type 0} → S → IlProgram → List ℕ → ℕ → World S

@@ -1,0 +1,5 @@
+pub mod Grammar
+pub mod Lexical
+pub mod Lowering
+pub mod Meaning
+pub mod Tree
