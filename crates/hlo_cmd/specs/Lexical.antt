@@ -31,6 +31,12 @@ abbrev pub IsInRange : Token → Type 0
 IsInRange (Number n) = n ≤ 2147483647
 IsInRange _ = ⊤
 
+-- a `+`, or a `0` before further bytes, stands first: no number is written so
+abbrev pub is_padded_text : List ℕ → Bool
+is_padded_text [] = false
+is_padded_text (b ∷ []) = b == 43
+is_padded_text (b ∷ c ∷ bs) = b == 43 || b == 48
+
 pub record IsToken (t : Token) (bytes : List ℕ) : Type 0 where
   pub spelled : bytes ≡ spelling t
   pub in_range : IsInRange t
