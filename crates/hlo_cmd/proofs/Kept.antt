@@ -1,15 +1,15 @@
 -- The lowered program means what the tree means.
-use Rattle.std.proofs.Common.{◌≡◌, ◌≢◌, ℕ, zero, suc, ◌+◌, ◌<◌, ◌≤◌, Bool, true, false, List, [], ◌∷◌, Some, refl, sym, ap, ◌∙◌, arith, eq-eqb, if◌then◌else◌, nat_eq, Result, Ok}
+use Rattle.std.proofs.Common.{◌≡◌, ◌≢◌, ℕ, ◌+◌, ◌<◌, ◌≤◌, List, [], ◌∷◌, Some, refl, ap, ◌∙◌, arith, eq-eqb, Ok}
 use Rattle.std.proofs.lemmas.Bool.{ne_eqb}
 use Rattle.il_core.specs.declared.instr.Block.{Block}
 use Rattle.il_core.specs.declared.instr.Instr.{Instr}
 use Rattle.il_core.specs.declared.instr.Instr.TheVariants.{Bin, PutChar}
-use Rattle.il_core.specs.World.{World, low_byte, Outcome, Returns, Stuck, OutOfTurns, ended, turn, put}
+use Rattle.il_core.specs.World.{World, low_byte, Returns, Stuck, OutOfTurns, ended, turn, put}
 use Rattle.il_core.specs.Meaning.{Frame, Lengths, Next, Act, steps, finish, enter, sites_of, run_of, il_run, frame_of, begin, exec, no_log, noted, lengths}
 use Rattle.il_core.specs.Program.{routine_at}
 use Rattle.hlo_num.specs.Operators.{operate}
-use Rattle.hlo_cmd.specs.Tree.{Arithmetic, Plus, Minus, Times, Expr, Constant, Paren, Binary, GetByte, PutByte, Stmt, Eval, Return, Body}
-use Rattle.hlo_cmd.specs.Meaning.{Valued, arithmetic, eval, returns, c_run}
+use Rattle.hlo_cmd.specs.Tree.{Arithmetic, Plus, Minus, Times, Expr, Constant, Paren, Binary, GetByte, PutByte, Eval, Return, Body}
+use Rattle.hlo_cmd.specs.Meaning.{arithmetic, eval, returns, c_run}
 use Rattle.hlo_cmd.specs.Lowering.{op_of, regs_after, reg_of, code, in_front, blocks, lowered, main_routine}
 
 abbrev Here : Type 0
@@ -50,7 +50,8 @@ module _ (call : Act (Unit {0})) (n : Lengths) where
     sites = 0 + k;
     run = refl;
     value = put_same f.regs r v;
-    kept = λ x lt. put_other f.regs r v x (omega arith) }
+    kept = λ x lt. put_other f.regs r v x (omega arith);
+  }
   lands (Paren e) r k is go f w = let x = lands e r k is go f w in record { frame = x.frame; sites = x.sites; run = x.run; value = x.value; kept = x.kept }
   lands (Binary o a b) r k is go f w =
       let ra = reg_taken a r in
@@ -66,13 +67,15 @@ module _ (call : Act (Unit {0})) (n : Lengths) where
         sites = 0 + y.sites;
         run = x.run ∙ y.run ∙ rw (left, y.value, no_trap o ((eval a w).value) ((eval b ((eval a w).after)).value)) refl;
         value = put_same y.frame.regs d v;
-        kept = λ z lt. put_other y.frame.regs d v z (omega arith) ∙ y.kept z (omega arith) ∙ x.kept z lt }
+        kept = λ z lt. put_other y.frame.regs d v z (omega arith) ∙ y.kept z (omega arith) ∙ x.kept z lt;
+      }
   lands GetByte r k is go f w = record {
     frame = record f { regs = put f.regs r _ };
     sites = 0 + k;
     run = refl;
     value = put_same f.regs r _;
-    kept = λ x lt. put_other f.regs r _ x (omega arith) }
+    kept = λ x lt. put_other f.regs r _ x (omega arith);
+  }
   lands (PutByte e) r k is go f w =
       let re = reg_taken e r in
       let i : Instr = PutChar (regs_after e r) (reg_of e r) in
@@ -84,7 +87,8 @@ module _ (call : Act (Unit {0})) (n : Lengths) where
         sites = 0 + x.sites;
         run = x.run ∙ rw x.value refl;
         value = put_same x.frame.regs d v;
-        kept = λ z lt. put_other x.frame.regs d v z (omega arith) ∙ x.kept z lt }
+        kept = λ z lt. put_other x.frame.regs d v z (omega arith) ∙ x.kept z lt;
+      }
 
   -- the run of the first of these blocks, from its start
   abbrev opens : (ℕ → Next (Unit {0})) → (ℕ → Next (Unit {0})) → ℕ → List Block → Next (Unit {0})

@@ -2,4 +2,5 @@ pub mod Grammar
 pub mod Lexical
 pub mod Lowering
 pub mod Meaning
+pub mod Scanning
 pub mod Tree

@@ -12,7 +12,7 @@ use Rattle.il_core.specs.declared.shape.ShapeRow.{ShapeRow}
 use Rattle.il_core.specs.declared.shape.Shape.TheVariants as shape
 use Rattle.il_core.specs.declared.program.IlProgram.{IlProgram}
 use Rattle.il_core.specs.Routine.{RoutineParts}
-use Rattle.hlo_cmd.specs.Tree.{Arithmetic, Plus, Minus, Times, Expr, Constant, Paren, Binary, GetByte, PutByte, Stmt, Eval, Return, Body}
+use Rattle.hlo_cmd.specs.Tree.{Arithmetic, Plus, Minus, Times, Expr, Constant, Paren, Binary, GetByte, PutByte, Eval, Return, Body}
 
 -- the next register after an expression's code, where r is the next one before it
 abbrev pub regs_after : Expr → ℕ → ℕ

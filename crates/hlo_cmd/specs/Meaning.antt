@@ -3,7 +3,7 @@
 use Rattle.std.specs.Prelude.{ℕ, ◌+◌, ◌-◌, ◌*◌, ◌%◌, ◌^◌, List, [], ◌∷◌}
 use Rattle.il_core.specs.World.{World, Exit, first_byte, after_get, low_byte, after_put}
 use Rattle.il_core.specs.Meaning.{Run}
-use Rattle.hlo_cmd.specs.Tree.{Arithmetic, Plus, Minus, Times, Expr, Constant, Paren, Binary, GetByte, PutByte, Stmt, Eval, Return, Body}
+use Rattle.hlo_cmd.specs.Tree.{Arithmetic, Plus, Minus, Times, Expr, Constant, Paren, Binary, GetByte, PutByte, Eval, Return, Body}
 
 -- a value, and the world after it
 pub record Valued : Type 0 where

@@ -1,6 +1,8 @@
 //! The top calls of the program.
 #![tactic(auto)]
 
+mod fault;
+mod scan;
 mod token;
 
 pub use token::Token;

@@ -1,4 +1,4 @@
-use Rattle.std.proofs.Common.{◌≡◌, ◌^◌, ◌<◌, ap, sym, ◌∙◌, arith, true, false}
+use Rattle.std.proofs.Common.{◌≡◌, ap, ◌∙◌, arith, false}
 use Rattle.hlo_cmd.specs.Lexical.{is_padded_text}
 use Rattle.hlo_cmd.proofs.Numbers.{decimal_unpadded}
 use Rattle.hlo_cmd.proofs.token.number_of.Goals as goal

@@ -1,4 +1,4 @@
-use Rattle.std.proofs.Common.{◌≡◌, sym, subst, arith}
+use Rattle.std.proofs.Common.{sym, subst, arith}
 use Rattle.std.specs.Str.{IsUtf8}
 use Rattle.hlo_cmd.proofs.Numbers.{read_is_spelled, spelled_is_read, decimal_utf8}
 use Rattle.hlo_cmd.proofs.token.parsed.Goals as goal
