@@ -318,3 +318,7 @@ no_token tokens rest text bs front b n h e bright at_front lexeme none ts all =
 pub at_end : (tokens : List Token) (rest text : List ℕ) → SoFar tokens rest text → length rest ≡ 0 → IsText tokens text
 at_end tokens [] text h e = subst (λ l. IsText l text) (append-nil tokens) (h.sound [] refl)
 at_end tokens (b ∷ bs) text h e = absurd (omega arith)
+
+pub only_at_end : (tokens : List Token) (rest text : List ℕ) → SoFar tokens rest text → length rest ≡ 0 → (ts : List Token) → IsText ts text → ts ≡ tokens
+only_at_end tokens [] text h e ts whole = let x = h.complete ts whole in x.1 ∙ ap (λ l. tokens ++ l) (no_tokens x.0 x.2) ∙ append-nil tokens
+only_at_end tokens (b ∷ bs) text h e ts whole = absurd (omega arith)

@@ -1,8 +1,16 @@
 //! The top calls of the program.
 #![tactic(auto)]
 
+mod command;
+mod compile;
 mod fault;
+mod lower;
+mod parse;
+mod pieces;
+mod refusal;
+mod report;
 mod scan;
 mod token;
+mod words;
 
-pub use token::Token;
+pub use report::{OptAnswer, Report, Status};

@@ -10,6 +10,7 @@ use std::alloc::Global;
 /// The tokens of a text, in one pass over its bytes.
 pub(crate) fn scan(alloc: Global, text: &[u8]) -> Result<Vec<Token>, Fault>
     ensures ok { IfOk result (λ v. IsText v.items text.now) }
+    ensures only { IfOk result (λ v. (ts : List Token) → IsText ts text.now → ts ≡ v.items) }
     ensures not_yet { result ≡ Err Fault.NotYet → (ts : List Token) → IsText ts text.now → ⊥ }
 {
     let mut tokens = Vec::new(alloc);

@@ -6,8 +6,8 @@ ghost use Rattle.hlo_cmd.specs.Lexical.{IsToken, is_padded_text};
 use std::str;
 
 /// A token of the C programs that are compiled so far.
-#[derive(Clone, Copy)]
-pub enum Token {
+#[derive(Clone, Copy, PartialEq, Eq)]
+pub(crate) enum Token {
     Int,
     Main,
     Void,

@@ -1,5 +1,5 @@
 use Rattle.std.proofs.Common.{sym, ◌∙◌}
-use Rattle.hlo_cmd.proofs.Texts.{at_start, past_blank, past_token, no_token, at_end}
+use Rattle.hlo_cmd.proofs.Texts.{at_start, past_blank, past_token, no_token, at_end, only_at_end}
 use Rattle.hlo_cmd.proofs.scan.scan.Goals as goal
 
 pub tokens-init : goal.tokens-init
@@ -16,3 +16,6 @@ returns-in_default-token_of-clause-not_yet c = λ _. no_token c.tokens.tokens.it
 
 pub returns-clause-ok : goal.returns-clause-ok
 returns-clause-ok c = at_end c.tokens.tokens.items c.tokens.rest.now c.args.text.now c.tokens.invariant c.in_default.ensures.cases
+
+pub returns-clause-only : goal.returns-clause-only
+returns-clause-only c = only_at_end c.tokens.tokens.items c.tokens.rest.now c.args.text.now c.tokens.invariant c.in_default.ensures.cases
