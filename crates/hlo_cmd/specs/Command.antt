@@ -1,6 +1,6 @@
 -- What `opt` promises.
-use Rattle.std.specs.Prelude.{◌≡◌, ℕ, ◌⊎◌, ◌++◌, ◌==◌, Bool, false, List, [], ◌∷◌, Option, Some, take, slice_index, slice_index_or, if◌then◌else◌, codes, ⊤, map, string_bytes}
-use Rattle.std.specs.Io.KnownBytes.{Appends, Keeps}
+use Rattle.std.specs.Prelude.{◌≡◌, ℕ, ◌⊎◌, ◌++◌, ◌==◌, false, List, [], ◌∷◌, Option, Some, None, take, slice_index, slice_index_or, if◌then◌else◌, codes, ⊤}
+use Rattle.std.specs.Io.KnownBytes.{Appends}
 use Rattle.outside.specs.Faults.{Rose}
 use Rattle.outside.specs.Told.{Told, Untold, Absent, Holds}
 use Rattle.il_core.specs.Meaning.{il_run}
@@ -91,6 +91,15 @@ pub record SaysFront (before after : Option (List ℕ)) (old_count new_count : �
 
 abbrev pub Says : Option (List ℕ) → Option (List ℕ) → ℕ → ℕ → List ℕ → Type 0
 Says before after old_count new_count bytes = Appends before after bytes ⊎ SaysFront before after old_count new_count bytes
+
+-- there is a report, and it is so
+abbrev pub IfSomeReport : (Report → Type 0) → Option Report → Type 0
+IfSomeReport P None = ⊥
+IfSomeReport P (Some report) = P report
+
+-- the statuses at which nothing was put out: the words, the file or reading it was refused
+abbrev pub IsQuiet : ℕ → Type 0
+IsQuiet status = (status ≡ 2) ⊎ ((status ≡ 3) ⊎ (status ≡ 5))
 
 -- the statuses of `opt`
 abbrev pub IsStatus : ℕ → Type 0

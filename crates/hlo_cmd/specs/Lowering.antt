@@ -70,6 +70,10 @@ main_routine body = record { pid = 0; params = 0; value = true; regs = regs_of b
 abbrev pub main_row : ShapeRow
 main_row = record { pid = 0; name = codes "main"; shape = shape.Routine 0 true }
 
+-- the program of one routine, `main`
+abbrev pub program_of : RoutineParts → IlProgram
+program_of main = record { shapes = main_row ∷ []; objects = []; routines = main ∷ [] }
+
 -- the whole program
 abbrev pub lowered : Body → IlProgram
-lowered body = record { shapes = main_row ∷ []; objects = []; routines = main_routine body ∷ [] }
+lowered body = program_of (main_routine body)

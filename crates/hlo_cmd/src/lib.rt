@@ -13,4 +13,5 @@ mod scan;
 mod token;
 mod words;
 
+pub use command::opt_command;
 pub use report::{OptAnswer, Report, Status};

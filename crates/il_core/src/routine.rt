@@ -43,7 +43,8 @@ impl Routine {
     /// How large it is: its instructions and the ends of its blocks. It takes time in proportion to the
     /// blocks.
     pub fn size(&self) -> u32
-        ensures { result ≡ size self.now }
+        ensures size { result ≡ size self.now }
+        ensures bound { result ≤ 2 ^ 16 }
     {
         size_of_blocks(self.blocks.as_slice())
     }

@@ -1,4 +1,4 @@
-use Rattle.std.proofs.Common.{◌≡◌, subst, refl, sym, ◌∙◌}
+use Rattle.std.proofs.Common.{subst, sym, ◌∙◌}
 use Rattle.hlo_cmd.specs.Grammar.{IsFile}
 use Rattle.hlo_cmd.proofs.compile.compile.Goals as goal
 

@@ -1,4 +1,3 @@
-use Rattle.std.proofs.Common.{◌≡◌}
 use Rattle.hlo_cmd.proofs.Fronts.{says, line_of}
 use Rattle.hlo_cmd.specs.declared.refusal.Refusal.TheVariants.{CannotRead, CannotWrite, Memory}
 use Rattle.hlo_cmd.proofs.pieces.tell.Goals as goal

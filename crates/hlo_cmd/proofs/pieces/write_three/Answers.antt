@@ -1,4 +1,4 @@
-use Rattle.std.proofs.Common.{◌≡◌, ◌++◌}
+use Rattle.std.proofs.Common.{◌++◌}
 use Rattle.std.proofs.lemmas.Result.{err_from_is_err_and}
 use Rattle.hlo_cmd.proofs.Fronts.{first_failed, then_failed}
 use Rattle.hlo_cmd.proofs.pieces.write_three.Goals as goal

@@ -1,4 +1,4 @@
-use Rattle.std.proofs.Common.{◌≡◌, ◌∷◌, [], List, ℕ, Bool, true, false, map, ap, sym, refl, ◌∙◌, rules, string_bytes}
+use Rattle.std.proofs.Common.{◌≡◌, ◌∷◌, [], Bool, true, false, map, ap, sym, refl, ◌∙◌, rules, string_bytes}
 use Rattle.std.specs.Prelude.{not, codes}
 use Rattle.std.specs.Cmp.Lexicographic.{same_text}
 use Rattle.std.proofs.lemmas.Bool.{eqb-true}
