@@ -3,9 +3,9 @@ ghost use Rattle.std.specs.Prelude.{◌≡◌, ◌<◌, ◌≤◌, ◌⊎◌, []
 ghost use Rattle.std.specs.Io.{WritesAtMost};
 ghost use Rattle.std.specs.Io.KnownBytes.{WriteAppends};
 ghost use Rattle.outside.specs.Calls.{FailsNext, CountsCall};
-ghost use Rattle.outside.specs.Faults.{HasCause};
+ghost use Rattle.outside.specs.Faults.{HasCause, NoneFalls};
 ghost use Rattle.outside.specs.Files.{told_of};
-ghost use Rattle.outside.specs.Told.{Absent, ReadsTold, SameFiles};
+ghost use Rattle.outside.specs.Told.{Absent, FillsBuffer, ReadsTold, SameFiles};
 
 use crate::calls::Calls;
 use crate::fault::Failed;
@@ -39,9 +39,10 @@ impl MemSink {
         ensures first { result.calls.made ≡ 0 }
         ensures faultless { result.calls.faults ≡ 0 }
     {
+        let calls = Calls::new(fail);
         MemSink {
             taken: Vec::new(alloc),
-            calls: Calls::new(fail),
+            calls,
         }
     }
 
@@ -120,9 +121,10 @@ impl Shelf for MemShelf {
         ensures kept_length { length b.new ≡ length b.old }
         ensures same { SameFiles (told_of self.old.files) (told_of self.new.files) }
         ensures contents { ReadsTold (told_of self.old.files name.now) at result b.new }
-        ensures counts { (n : List ℕ) → self.old.calls.faults ≤ self.new.calls.faults }
+        ensures counts { NoneFalls (λ _. self.old.calls.faults) (λ _. self.new.calls.faults) }
         ensures cause { HasCause self.old.calls.faults self.new.calls.faults result }
 
+        ensures fills { FillsBuffer (told_of self.old.files name.now) at result b.old }
         ensures files { self.new.files ≡ self.old.files }
         ensures counted { CountsCall self.old.calls self.new.calls result }
         ensures listed { FailsNext self.old.calls → IsErr result }
@@ -133,5 +135,55 @@ impl Shelf for MemShelf {
             Some(bytes) => Ok(give(bytes, at, b)),
             None => Err(self.calls.fault()),
         }
+    }
+}
+
+#[cfg(test)]
+mod tests {
+    use super::*;
+    use crate::shelf::{ReadFault, read_whole};
+    use crate::sink::write_all;
+    use std::test::Fail;
+
+    #[test]
+    fn second_write_fails(rt: HostRuntime) -> Result<(), Fail> {
+        let alloc = rt.alloc();
+        let mut sink = MemSink::new(alloc, vec![in alloc; 2]?);
+        assert_eq!(rt; write_all(&mut sink, b"ab"), Ok(()));
+        assert_eq!(rt; write_all(&mut sink, b"cd"), Err(Failed));
+        assert_eq!(rt; write_all(&mut sink, b"ef"), Ok(()));
+        assert_eq!(rt; sink.bytes(), b"abef".as_slice());
+        Ok(())
+    }
+
+    #[test]
+    fn three_bytes_are_read_whole(rt: HostRuntime) -> Result<(), Fail> {
+        let alloc = rt.alloc();
+        let mut files = Vec::new(alloc);
+        files.push((String::from_str(alloc, "a.c")?, vec![in alloc; 1, 2, 3]?))?;
+        let mut shelf = MemShelf::new(files, vec![in alloc; 4]?);
+        assert!(rt;
+            matches!(
+                read_whole(alloc, &mut shelf, "a.c", 2),
+                Err(ReadFault::TooLong)
+            )
+        );
+        assert!(rt;
+            matches!(read_whole(alloc, &mut shelf, "a.c", 3), Ok(v) if v.as_slice() == [1, 2, 3].as_slice())
+        );
+        // the fourth call, which is in the list, is the first of this read
+        assert!(rt;
+            matches!(
+                read_whole(alloc, &mut shelf, "a.c", 3),
+                Err(ReadFault::Failed)
+            )
+        );
+        assert!(rt;
+            matches!(
+                read_whole(alloc, &mut shelf, "b.c", 3),
+                Err(ReadFault::Failed)
+            )
+        );
+        Ok(())
     }
 }
