@@ -4,6 +4,7 @@
 
 mod calls;
 mod disk;
+mod disks;
 mod fault;
 mod files;
 mod gate;
@@ -15,6 +16,7 @@ mod sure;
 mod unkept;
 
 pub use disk::Disk;
+pub use disks::{BentDisk, MemDisk};
 pub use fault::Failed;
 pub use gate::{Gate, Moment};
 pub use memory::{MemShelf, MemSink};

@@ -23,9 +23,9 @@ pub struct MemSink {
 }
 
 impl Model for MemSink {
-    ghost use Rattle.outside.specs.Memory.{SinkState};
+    ghost use Rattle.outside.specs.Memory.{KeptBytes};
 
-    ghost Value = { SinkState };
+    ghost Value = { KeptBytes };
 
     ghost view = { λ s. record { bytes = s.taken.items; calls = s.calls } };
 }
@@ -87,9 +87,9 @@ pub struct MemShelf {
 }
 
 impl Model for MemShelf {
-    ghost use Rattle.outside.specs.Memory.{ShelfState};
+    ghost use Rattle.outside.specs.Memory.{KeptFiles};
 
-    ghost Value = { ShelfState };
+    ghost Value = { KeptFiles };
 
     ghost view = { λ s. record { files = s.files.items; calls = s.calls } };
 }
@@ -128,6 +128,7 @@ impl Shelf for MemShelf {
         ensures files { self.new.files ≡ self.old.files }
         ensures counted { CountsCall self.old.calls self.new.calls result }
         ensures listed { FailsNext self.old.calls → IsErr result }
+        ensures nothing { OnErr result (b.new ≡ b.old) }
         ensures why { OnErr result (FailsNext self.old.calls ⊎ (told_of self.old.files name.now ≡ Absent)) }
     {
         self.calls.count()?;

@@ -121,9 +121,9 @@ pub struct SureDisk {
 }
 
 impl Model for SureDisk {
-    ghost use Rattle.outside.specs.Memory.{DiskState};
+    ghost use Rattle.outside.specs.Memory.{FixedBytes};
 
-    ghost Value = { DiskState };
+    ghost Value = { FixedBytes };
 
     ghost view = { λ d. record { bytes = d.bytes.items; honest = d.honest } };
 }
