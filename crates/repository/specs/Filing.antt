@@ -37,18 +37,18 @@ FetchFault f before now Failed = Rose before now
 FetchFault f before now (Damaged kept found) = (kept ≡ f.digest) × (found ≢ kept) × ((bytes : List ℕ) × (length bytes ≡ f.len) × (sha256 bytes ≡ found))
 FetchFault f before now Memory = ⊤
 
--- what a fetch may answer where the record's places have these bytes: the bytes, or damage with their digest, or another fault
-abbrev pub GivesBytes : Result (Vec ℕ Global) RepoFault → List ℕ → Type 0
-GivesBytes (Ok v) bytes = v.items ≡ bytes
-GivesBytes (Err Failed) bytes = ⊤
-GivesBytes (Err (Damaged kept found)) bytes = found ≡ sha256 bytes
-GivesBytes (Err Memory) bytes = ⊤
+-- a fetch answers by the bytes that the record's places have: those bytes, or damage with their digest, or another fault
+abbrev pub GivesRecord : Option (List ℕ) → Filed → Result (Vec ℕ Global) RepoFault → Type 0
+GivesRecord told f (Ok v) = HasBytes told f.place v.items
+GivesRecord told f (Err Failed) = ⊤
+GivesRecord told f (Err (Damaged kept found)) = (bytes : List ℕ) × (length bytes ≡ f.len) × HasBytes told f.place bytes × (sha256 bytes ≡ found)
+GivesRecord told f (Err Memory) = ⊤
 
--- an honest disk stays honest and changes no place at a fetch, which answers by the bytes that the record's places have
+-- an honest disk stays honest and changes no place at a fetch, which answers by what its places have
 pub record FetchesRecord (old new : Option (List ℕ)) (is_honest : Bool) (f : Filed) (r : Result (Vec ℕ Global) RepoFault) : Type 0 where
   pub honest : IsTrue is_honest
   pub same : SamePlaces old new
-  pub gives : (bytes : List ℕ) → length bytes ≡ f.len → HasBytes old f.place bytes → GivesBytes r bytes
+  pub gives : GivesRecord old f r
 
 -- the bytes, or a fault that isn't damage
 abbrev pub GivesFiled : Result (Vec ℕ Global) RepoFault → List ℕ → Type 0

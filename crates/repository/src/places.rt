@@ -21,17 +21,17 @@ pub fn read_range<D: Disk>(d: &mut D, place: u64, b: &mut [u8]) -> Result<(), Fa
     Ok(())
 }
 
-/// Puts `b` at the places from `place` on. It asks the disk for those places alone.
-pub fn write_range<D: Disk>(d: &mut D, place: u64, b: &[u8]) -> Result<(), Failed>
-    requires { place + length b.now < 2 ^ 64 }
+/// Puts `bytes` at the places from `place` on. It asks the disk for those places alone.
+pub fn write_range<D: Disk>(d: &mut D, place: u64, bytes: &[u8]) -> Result<(), Failed>
+    requires { place + length bytes.now < 2 ^ 64 }
     ensures cause { HasCause (D.faults d.old) (D.faults d.new) result }
     ensures kept_reach { D.reach d.new ≡ D.reach d.old }
-    ensures places { IsTrue (D.honest d.old) → place + length b.now ≤ D.reach d.old
-        → WritesRange (D.bytes d.old) (D.bytes d.new) (D.honest d.new) place result b.now }
+    ensures places { IsTrue (D.honest d.old) → place + length bytes.now ≤ D.reach d.old
+        → WritesRange (D.bytes d.old) (D.bytes d.new) (D.honest d.new) place result bytes.now }
 {
     let mut at = 0;
-    while at < b.len() {
-        at += d.write_at(place + at as u64, &b[at..])?;
+    while at < bytes.len() {
+        at += d.write_at(place + at as u64, &bytes[at..])?;
     }
     Ok(())
 }

@@ -12,11 +12,6 @@ returns-then-ne-clause-filed g c = λ bytes honest covers is has.
     let kept : c.digest-found.result ≡ c.args.f.now.digest = c.digest-found.ensures ∙ ap sha256 (c.as_slice.ensures.value ∙ same) ∙ sym (ap (λ (f : Filed). f.digest) is) in
     other_text c.digest-found.result c.args.f.now.digest (search rules) kept
 
-pub returns-clause-places : goal.returns-clause-places
-returns-clause-places g c = λ honest covers.
-    let read = c.in_ok-v.ensures.places honest covers in
-    record { honest = read.honest; same = read.same; gives = λ bytes long has. HasBytes-unique _ c.args.f.now.place _ bytes (c.in_ok-v.ensures.length ∙ sym long) read.gives has }
-
 pub returns-clause-filed : goal.returns-clause-filed
 returns-clause-filed g c = λ bytes honest covers is has.
     let read = c.in_ok-v.ensures.places honest covers in
