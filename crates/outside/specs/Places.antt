@@ -1,5 +1,5 @@
 -- A disk's places, and what reads and writes do to them.
-use Rattle.std.specs.Prelude.{◌≡◌, ℕ, ◌+◌, ◌<◌, ◌≤◌, Bool, IsTrue, List, slice_index, None, Some, Result, IfOk, MatchResult}
+use Rattle.std.specs.Prelude.{◌≡◌, ℕ, ◌+◌, ◌/◌, ◌%◌, ◌^◌, ◌<◌, ◌≤◌, ◌==◌, Bool, if◌then◌else◌, bit_xor, IsTrue, List, slice_index, None, Some, Result, IfOk, MatchResult}
 use Rattle.std.specs.declared.option.Option.{Option}
 
 -- the byte at a place: 0 past the end of what is told
@@ -31,3 +31,11 @@ pub record ReadsPlaces {E : Type 0} (old new : Option (List ℕ)) (is_honest : B
 pub record WritesPlaces {E : Type 0} (old new : Option (List ℕ)) (is_honest : Bool) (at : ℕ) (r : Result ℕ E) (piece : List ℕ) : Type 0 where
   pub honest : IsTrue is_honest
   pub puts : MatchResult r (λ n. Overwrites old new at n piece) (λ _. SamePlaces old new)
+
+-- byte k of a buffer, with one bit of the buffer turned: bit 0 is the low bit of byte 0
+abbrev pub turned_at : ℕ → ℕ → ℕ → ℕ
+turned_at bit k byte = if k == bit / 8 then bit_xor byte (2 ^ (bit % 8)) else byte
+
+-- the buffer's first n bytes are those of the places from `at` on, but for the one bit if this is the read that is bent
+abbrev pub GivesBent : Option (List ℕ) → ℕ → ℕ → List ℕ → Bool → ℕ → Type 0
+GivesBent told at n buffer is_bent bit = (k : ℕ) → k < n → slice_index buffer k ≡ (if is_bent then turned_at bit k (byte_at told (at + k)) else byte_at told (at + k))

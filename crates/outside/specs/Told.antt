@@ -1,5 +1,5 @@
 -- What a shelf tells of its files.
-use Rattle.std.specs.Prelude.{◌≡◌, ℕ, ◌<◌, List, length, take, drop, ⊤, Result, IfOk, IsErr}
+use Rattle.std.specs.Prelude.{◌≡◌, ℕ, ◌-◌, ◌<◌, List, length, min, take, drop, ⊤, Result, IfOk, IsErr}
 
 -- what a shelf tells of the file of a name: nothing, that there is none, or its bytes
 pub data Told : Type 0 where
@@ -21,6 +21,12 @@ abbrev pub ReadsTold : {E : Type 0} → Told → ℕ → Result ℕ E → List �
 ReadsTold Untold at r buffer = ⊤
 ReadsTold Absent at r buffer = IsErr r
 ReadsTold (Holds bytes) at r buffer = IfOk r (λ n. GivesFront (drop at bytes) n buffer)
+
+-- a read that succeeds fills the buffer as far as bytes are left
+abbrev pub FillsBuffer : {E : Type 0} → Told → ℕ → Result ℕ E → List ℕ → Type 0
+FillsBuffer Untold at r buffer = ⊤
+FillsBuffer Absent at r buffer = ⊤
+FillsBuffer (Holds bytes) at r buffer = IfOk r (λ n. n ≡ min (length buffer) (length bytes - at))
 
 -- these bytes are the file, as far as it is told
 abbrev pub IsFile : Told → List ℕ → Type 0

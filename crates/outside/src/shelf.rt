@@ -1,6 +1,6 @@
 //! What has files to read, by name.
 ghost use Rattle.std.specs.Prelude.{◌≡◌, ◌≤◌, ℕ, List, IfOk, length, Err};
-ghost use Rattle.outside.specs.Faults.{HasCause, Rose};
+ghost use Rattle.outside.specs.Faults.{HasCause, NoneFalls, Rose};
 ghost use Rattle.outside.specs.Told.{Told, SameFiles, ReadsTold, IsFile, IsLongerThan};
 
 use crate::fault::Failed;
@@ -23,7 +23,7 @@ pub trait Shelf {
         ensures contents { ReadsTold (tells self.old name.now) at result b.new }
 
         // No count falls, and a failure is counted at the name that was asked.
-        ensures counts { (n : List ℕ) → faults self.old n ≤ faults self.new n }
+        ensures counts { NoneFalls (faults self.old) (faults self.new) }
         ensures cause { HasCause (faults self.old name.now) (faults self.new name.now) result };
 }
 
@@ -80,7 +80,7 @@ pub fn read_whole<S: Shelf>(
     ensures too_long { result ≡ Err ReadFault.TooLong → IsLongerThan (S.tells s.old name.now) max }
     ensures failed { result ≡ Err ReadFault.Failed → Rose (S.faults s.old name.now) (S.faults s.new name.now) }
     ensures same { SameFiles (S.tells s.old) (S.tells s.new) }
-    ensures counts { (n : List ℕ) → S.faults s.old n ≤ S.faults s.new n }
+    ensures counts { NoneFalls (S.faults s.old) (S.faults s.new) }
 {
     let most = max as usize;
     let mut block = [0; BLOCK];
