@@ -16,8 +16,9 @@ impl<R: Rule> Lock<R> {
     /// Waits until some pass has given since this pass last gave, or since it was made where it never
     /// gave. It sleeps in between, and takes no memory.
     ///
-    /// Nothing is promised of when it returns. After 2^63 gives in between, the count stands where it
-    /// stood, and the wait goes on to the next.
+    /// Nothing is promised of when it returns. A pass that has the turn keeps the others from giving,
+    /// and so may rest for ever. After just 2^63 gives the count stands where it stood, and the wait
+    /// goes on to the next.
     pub fn rest<W: Wait>(&self, rt: &W, p: &mut Pass<R>)
         requires pass { IsPassOf self.now p.old }
         ensures pass { IsPassOf self.now p.new }
@@ -64,8 +65,9 @@ impl<R: Rule> Lock<R> {
 
     /// Sleeps until the next give, where the word still is this one. It may return for no reason.
     ///
-    /// No wake is lost: a sleeper is counted before the word is compared, and a giver changes the word
-    /// before it reads the count.
+    /// A sleeper is counted before the word is compared, and a giver changes the word before it reads
+    /// the count, so that a give in between wakes the sleeper or keeps it from sleeping. (The low 32
+    /// bits are compared: after just 2^31 gives in between it sleeps until the next.)
     fn sleep<W: Wait>(&self, rt: &W, word: u64) {
         self.sleepers.fetch_add(1, Ordering::SeqCst);
         self.table.shared.park(rt, 0, (word % (1 << 32)) as u32);
