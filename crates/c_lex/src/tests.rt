@@ -148,6 +148,10 @@ fn values_constants(rt: HostRuntime) -> Result<(), Fail> {
 #[test]
 fn tells_faults(rt: HostRuntime) -> Result<(), Fail> {
     let long = [b'x'; 256];
+    let mut later = [b'x'; 300];
+    later[0] = b'\r';
+    later[1] = b'\n';
+    later[2] = b'\t';
     let faults = [
         (b"a @".as_slice(), 1, LexKind::BadByte),
         (b"\r\n\t\x0ca # b", 2, LexKind::BadByte),
@@ -165,10 +169,12 @@ fn tells_faults(rt: HostRuntime) -> Result<(), Fail> {
         (b"1.5", 1, LexKind::BadNumber),
         (b"4294967296", 1, LexKind::TooBig),
         (b"\n99999999999q", 2, LexKind::TooBig),
+        (b"\t\r\n\x0c0x123456789", 2, LexKind::TooBig),
         (b"a goto\r\n", 1, LexKind::LeftOut),
         (b"\r\n\t\"a\"", 2, LexKind::LeftOut),
         (b"volatile", 1, LexKind::LeftOut),
         (long.as_slice(), 1, LexKind::LongName),
+        (later.as_slice(), 2, LexKind::LongName),
     ];
     for (text, line, kind) in faults {
         assert_eq!(rt;
