@@ -1,0 +1,7 @@
+pub mod Bytes
+pub mod Spelling
+pub mod Pieces
+pub mod Text
+pub mod Spans
+pub mod Machine
+pub mod Reading

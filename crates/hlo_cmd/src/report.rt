@@ -1,0 +1,51 @@
+//! What the program ends with.
+ghost use Rattle.std.specs.Prelude.{◌≡◌};
+
+/// The exit status of the program: 0 for success, 2 for words that no command has, 3 for a file that is
+/// refused, 5 and 6 where reading and writing failed, and 10 where memory ran out.
+#[derive(Clone, Copy, Debug, PartialEq, Eq)]
+pub struct Status(pub u8);
+
+/// What a run of `opt` tells of itself. Charges are in the stated bytes, costs are sums of squared sizes.
+#[derive(Clone, Copy)]
+pub struct Report {
+    /// The most bytes that were charged at one time, what workers hold included.
+    pub charged_peak: u64,
+    /// The most bytes that were charged under the limit.
+    pub under_peak: u64,
+    /// How many routines were compacted.
+    pub compactions: u64,
+    /// How many routines were written to the scratch disk.
+    pub offloads: u64,
+    /// How many routines were brought back for use.
+    pub reloads: u64,
+    /// The cost of the lowered program.
+    pub cost_before: u64,
+    /// The cost of the printed program.
+    pub cost_after: u64,
+}
+
+impl Report {
+    /// The report of a run that paged nothing and printed the lowered program, which has this cost.
+    pub(crate) fn unpaged(cost: u64) -> Report
+        ensures { result ≡ record { charged_peak = 0; under_peak = 0; compactions = 0; offloads = 0; reloads = 0; cost_before = cost; cost_after = cost } }
+    {
+        Report {
+            charged_peak: 0,
+            under_peak: 0,
+            compactions: 0,
+            offloads: 0,
+            reloads: 0,
+            cost_before: cost,
+            cost_after: cost,
+        }
+    }
+}
+
+/// What `opt` answers: its status, the disk that it was handed, and a report exactly at status 0.
+#[derive(Drop)]
+pub struct OptAnswer<D> {
+    pub status: Status,
+    pub disk: D,
+    pub report: Option<Report>,
+}

@@ -1,0 +1,10 @@
+pub mod Limits
+pub mod Meaning
+pub mod Object
+pub mod Program
+pub mod Routine
+pub mod Shapes
+pub mod Size
+pub mod Text
+pub mod Valid
+pub mod World
