@@ -115,25 +115,35 @@ mod tests {
         Ok(())
     }
 
+    /// The program with blanks behind it, so many bytes in all.
+    fn padded(alloc: Global, length: usize) -> Result<Vec<u8>, AllocError> {
+        let mut text = b"int main(void){return 0;}".to_vec(alloc)?;
+        text.resize(length, b' ')?;
+        Ok(text)
+    }
+
+    fn expect_padded(
+        rt: &impl Abort,
+        alloc: Global,
+        length: usize,
+        status: u8,
+        out: &[u8],
+        err: &[u8],
+    ) -> Result<(), AllocError> {
+        let text = padded(alloc, length)?;
+        let row = Row {
+            words: &["opt", "a.c"],
+            text: text.as_slice(),
+            failing: &[],
+        };
+        expect(rt, alloc, row, status, out, err)
+    }
+
     #[test]
     fn longest_file(rt: HostRuntime) -> Result<(), Fail> {
         let alloc = rt.alloc();
-        let opt: &[&str] = &["opt", "a.c"];
-        let mut text = b"int main(void){return 0;}".to_vec(alloc)?;
-        text.resize(4096, b' ')?;
-        let longest = Row {
-            words: opt,
-            text: text.as_slice(),
-            failing: &[],
-        };
-        expect(&rt, alloc, longest, 0, ZERO, b"")?;
-        text.push(b'\n')?;
-        let longer = Row {
-            words: opt,
-            text: text.as_slice(),
-            failing: &[],
-        };
-        expect(&rt, alloc, longer, 3, b"", b"hlo: a.c: NotYet\n")?;
+        expect_padded(&rt, alloc, 4096, 0, ZERO, b"")?;
+        expect_padded(&rt, alloc, 4097, 3, b"", b"hlo: a.c: NotYet\n")?;
         Ok(())
     }
 }
