@@ -36,7 +36,8 @@ pub trait Poolable: Sized {
 
     /// The compact spelling. It fails only for want of memory.
     fn encode(&self, alloc: Global) -> Result<Vec<u8>, AllocError>
-        ensures { IfOk result (λ b. b.items ≡ encoding self.now) };
+        ensures spelling { IfOk result (λ b. b.items ≡ encoding self.now) }
+        ensures value { is_value self.now };
 
     /// The value with this spelling; `None` exactly where the bytes are no value's whole spelling. It
     /// fails only for want of memory.
@@ -55,7 +56,6 @@ pub trait Poolable: Sized {
 pub fn round_trip<T: Poolable>(alloc: Global, v: &T) -> Result<Option<T>, AllocError>
     ensures { IfOk result (λ r. r ≡ Some v.now) }
 {
-    let _charge = v.charge();
     let b = v.encode(alloc)?;
     T::decode(alloc, b.as_slice())
 }

@@ -32,9 +32,10 @@ impl Poolable for Pair {
     }
 
     fn encode(&self, alloc: Global) -> Result<Vec<u8>, AllocError> {
+        let (first, second) = (self.first, self.second);
         let mut b = Vec::with_capacity(alloc, 2)?;
-        b.push(self.first)?;
-        b.push(self.second)?;
+        b.push(first)?;
+        b.push(second)?;
         Ok(b)
     }
 
