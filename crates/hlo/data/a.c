@@ -1,1 +1,2 @@
-int main(void){return 0;}
+#include <stdio.h>
+int main(void){putchar(getchar() + 1); return 2 * 3;}

@@ -7,7 +7,7 @@ use Rattle.il_core.specs.Text.{text, routine_text, head_text, done_text}
 use Rattle.il_core.specs.Program.{name_at}
 use Rattle.outside.specs.Told.{Told, Untold, Absent, Holds, IsFile, IsLongerThan}
 use Rattle.hlo_cmd.specs.Command.{HasSource, HasNoSource}
-use Rattle.hlo_cmd.specs.Grammar.{IsSource, max_bytes}
+use Rattle.hlo_cmd.specs.Grammar.{IsSource, IsOnlySource, max_bytes}
 use Rattle.hlo_cmd.specs.Lowering.{program_of, main_row}
 use Rattle.hlo_cmd.specs.Tree.{Body}
 
@@ -16,10 +16,10 @@ no_source Untold bytes h none = tt
 no_source Absent bytes h none = h
 no_source (Holds whole) bytes h none = λ body source. none body (subst (IsSource body) (sym h) source)
 
-pub has_source : (told : Told) (bytes : List ℕ) (body : Body) → IsFile told bytes → IsSource body bytes → HasSource told body
+pub has_source : (told : Told) (bytes : List ℕ) (body : Body) → IsFile told bytes → IsOnlySource body bytes → HasSource told body
 has_source Untold bytes body h source = tt
 has_source Absent bytes body h source = h
-has_source (Holds whole) bytes body h source = subst (IsSource body) h source
+has_source (Holds whole) bytes body h source = subst (IsOnlySource body) h source
 
 pub too_long : (told : Told) → IsLongerThan told max_bytes → HasNoSource told
 too_long Untold h = tt

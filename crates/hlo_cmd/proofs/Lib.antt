@@ -1,6 +1,12 @@
+pub mod Emitted
 pub mod Files
 pub mod Fronts
 pub mod Kept
+pub mod Limits
 pub mod Numbers
 pub mod Promises
+pub mod Readings
+pub mod Rows
+pub mod Sources
+pub mod Statements
 pub mod Texts

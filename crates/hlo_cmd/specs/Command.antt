@@ -7,7 +7,7 @@ use Rattle.il_core.specs.Meaning.{il_run}
 use Rattle.il_core.specs.Size.{cost}
 use Rattle.il_core.specs.Text.{text}
 use Rattle.hlo_cmd.specs.declared.report.Report.{Report}
-use Rattle.hlo_cmd.specs.Grammar.{IsSource}
+use Rattle.hlo_cmd.specs.Grammar.{IsSource, IsOnlySource}
 use Rattle.hlo_cmd.specs.Lowering.{lowered}
 use Rattle.hlo_cmd.specs.Meaning.{c_run}
 use Rattle.hlo_cmd.specs.Tree.{Body}
@@ -17,11 +17,11 @@ pub record IsRequest (words : List (List ℕ)) (file : List ℕ) : Type 0 where
   pub spelled : words ≡ codes "opt" ∷ file ∷ []
   pub plain : (slice_index file 0 == 45) ≡ false
 
--- the file has this body of `main`, as far as it is told
+-- the file has this body of `main`, and no other, as far as it is told
 abbrev pub HasSource : Told → Body → Type 0
 HasSource Untold body = ⊤
 HasSource Absent body = ⊥
-HasSource (Holds bytes) body = IsSource body bytes
+HasSource (Holds bytes) body = IsOnlySource body bytes
 
 -- the file isn't of the grammar, as far as it is told
 abbrev pub HasNoSource : Told → Type 0

@@ -2,7 +2,9 @@ pub mod Command
 pub mod Grammar
 pub mod Lexical
 pub mod Lowering
+pub mod Emitting
 pub mod Meaning
+pub mod Reading
 pub mod Refusal
 pub mod Scanning
 pub mod Tree

@@ -1,16 +1,18 @@
 //! The top calls of the program.
 #![tactic(auto)]
 
+mod code;
 mod command;
 mod compile;
+mod draft;
+mod expr;
 mod fault;
-mod lower;
-mod parse;
 mod pieces;
 mod refusal;
 mod report;
 mod scan;
 mod token;
+mod tokens;
 mod words;
 
 pub use command::opt_command;

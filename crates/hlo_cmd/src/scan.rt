@@ -7,11 +7,11 @@ use crate::fault::Fault;
 use crate::token::{Token, token_of};
 use std::alloc::Global;
 
-/// The tokens of a text, in one pass over its bytes.
-pub(crate) fn scan(alloc: Global, text: &[u8]) -> Result<Vec<Token>, Fault>
-    ensures ok { IfOk result (λ v. IsText v.items text.now) }
-    ensures only { IfOk result (λ v. (ts : List Token) → IsText ts text.now → ts ≡ v.items) }
-    ensures not_yet { result ≡ Err Fault.NotYet → (ts : List Token) → IsText ts text.now → ⊥ }
+/// The tokens of a text, in one pass over its bytes. With `stdio` the names of the library are tokens.
+pub(crate) fn scan(alloc: Global, text: &[u8], stdio: bool) -> Result<Vec<Token>, Fault>
+    ensures ok { IfOk result (λ v. IsText stdio v.items text.now) }
+    ensures only { IfOk result (λ v. (ts : List Token) → IsText stdio ts text.now → ts ≡ v.items) }
+    ensures not_yet { result ≡ Err Fault.NotYet → (ts : List Token) → IsText stdio ts text.now → ⊥ }
 {
     let mut tokens = Vec::new(alloc);
     let mut rest = text;
@@ -20,7 +20,7 @@ pub(crate) fn scan(alloc: Global, text: &[u8]) -> Result<Vec<Token>, Fault>
             rest = others;
         } else {
             let (front, behind) = rest.split_at(lexeme_len(rest));
-            let Some(token) = token_of(front) else {
+            let Some(token) = token_of(front, stdio) else {
                 return Err(Fault::NotYet);
             };
             tokens.push(token)?;

@@ -1,7 +1,7 @@
 //! Tokens, and the tokens that bytes spell.
-ghost use Rattle.std.specs.Prelude.{◌≡◌, ℕ, ◌^◌, ◌<◌, ◌≤◌, IfSome, IfNone, false};
+ghost use Rattle.std.specs.Prelude.{◌≡◌, ℕ, ◌^◌, ◌<◌, ◌≤◌, IfSome, IfNone, true, false};
 ghost use Rattle.std.specs.Fmt.{decimal};
-ghost use Rattle.hlo_cmd.specs.Lexical.{IsToken, is_padded_text};
+ghost use Rattle.hlo_cmd.specs.Lexical.{IsToken, is_library_word, is_name, is_padded_text, is_word};
 
 use std::str;
 
@@ -12,6 +12,9 @@ pub(crate) enum Token {
     Main,
     Void,
     Return,
+    /// The library's `getchar` and `putchar`, where the include line declares them.
+    Getchar,
+    Putchar,
     /// A decimal constant, at most 2147483647.
     Number(u32),
     Open,
@@ -19,24 +22,77 @@ pub(crate) enum Token {
     OpenBrace,
     CloseBrace,
     Semicolon,
+    Plus,
+    Minus,
+    Star,
 }
 
-/// The token that the bytes spell, if there is one.
-pub(crate) fn token_of(bytes: &[u8]) -> Option<Token>
-    ensures found { IfSome result (λ t. IsToken t bytes.now) }
-    ensures none { IfNone result ((t : Token) → IsToken t bytes.now → ⊥) }
+/// The token that the bytes spell, if there is one. With `stdio` the names of the library are tokens.
+pub(crate) fn token_of(bytes: &[u8], stdio: bool) -> Option<Token>
+    ensures found { IfSome result (λ t. IsToken stdio t bytes.now) }
+    ensures none { IfNone result ((t : Token) → IsToken stdio t bytes.now → ⊥) }
+{
+    let token = spelled(bytes)?;
+    if is_library(token) && !stdio {
+        None
+    } else {
+        Some(token)
+    }
+}
+
+/// Whether the token is a name of the library.
+fn is_library(token: Token) -> bool
+    ensures { result ≡ is_library_word token }
+{
+    matches!(token, Token::Getchar | Token::Putchar)
+}
+
+/// The token that the bytes spell where the library is declared.
+fn spelled(bytes: &[u8]) -> Option<Token>
+    ensures found { IfSome result (λ t. IsToken true t bytes.now) }
+    ensures none { IfNone result ((t : Token) → IsToken true t bytes.now → ⊥) }
+{
+    if let Some(mark) = mark_of(bytes) {
+        return Some(mark);
+    }
+    if let Some(word) = word_of(bytes) {
+        return Some(word);
+    }
+    let number = number_of(bytes)?;
+    Some(Token::Number(number))
+}
+
+/// The token of one byte.
+fn mark_of(bytes: &[u8]) -> Option<Token>
+    ensures found { IfSome result (λ t. IsToken true t bytes.now) }
+    ensures none { IfNone result ((t : Token) → is_word t ≡ false → IsToken true t bytes.now → ⊥) }
+{
+    match bytes {
+        b"(" => Some(Token::Open),
+        b")" => Some(Token::Close),
+        b"{" => Some(Token::OpenBrace),
+        b"}" => Some(Token::CloseBrace),
+        b";" => Some(Token::Semicolon),
+        b"+" => Some(Token::Plus),
+        b"-" => Some(Token::Minus),
+        b"*" => Some(Token::Star),
+        _ => None,
+    }
+}
+
+/// The token of a word.
+fn word_of(bytes: &[u8]) -> Option<Token>
+    ensures found { IfSome result (λ t. IsToken true t bytes.now) }
+    ensures none { IfNone result ((t : Token) → is_name t ≡ true → IsToken true t bytes.now → ⊥) }
 {
     match bytes {
         b"int" => Some(Token::Int),
         b"main" => Some(Token::Main),
         b"void" => Some(Token::Void),
         b"return" => Some(Token::Return),
-        b"(" => Some(Token::Open),
-        b")" => Some(Token::Close),
-        b"{" => Some(Token::OpenBrace),
-        b"}" => Some(Token::CloseBrace),
-        b";" => Some(Token::Semicolon),
-        _ => number_of(bytes).map(Token::Number),
+        b"getchar" => Some(Token::Getchar),
+        b"putchar" => Some(Token::Putchar),
+        _ => None,
     }
 }
 

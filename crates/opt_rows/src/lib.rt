@@ -13,6 +13,18 @@ mod tests {
     const ZERO: &[u8] =
         b"hlo-il 1\nroutine 0 main params 0 value regs 2 entry 1\nb0:\n  r0 = const 0\n  return r0\nb1:\n  r1 = const 0\n  return r1\nend\ndone\n";
 
+    /// A program that reads, adds, writes and multiplies.
+    const INCREMENT: &[u8] =
+        b"#include <stdio.h>\nint main(void){putchar(getchar() + 1); return 2 * 3;}";
+
+    /// Its text.
+    const INCREMENTED: &[u8] =
+        b"hlo-il 1\nroutine 0 main params 0 value regs 8 entry 1\nb0:\n  r0 = getchar\n  r1 = const 1\n  r2 = adds r0 r1\n  r3 = putchar r2\n  r4 = const 2\n  r5 = const 3\n  r6 = muls r4 r5\n  return r6\nb1:\n  r7 = const 0\n  return r7\nend\ndone\n";
+
+    /// The bytes of the text of `int main(void){((7)) - (1 - 2); return 1; return 0;}`.
+    const NESTED: &[u8] =
+        b"hlo-il 1\nroutine 0 main params 0 value regs 8 entry 1\nb0:\n  r0 = const 7\n  r1 = const 1\n  r2 = const 2\n  r3 = subs r1 r2\n  r4 = subs r0 r3\n  r5 = const 1\n  return r5\nb1:\n  r6 = const 0\n  return r6\nb2:\n  r7 = const 0\n  return r7\nend\ndone\n";
+
     #[derive(Drop)]
     /// A call of `opt` with its words, the file `a.c`, and the calls of the sink that fail.
     struct Row<'a> {
@@ -112,6 +124,59 @@ mod tests {
         expect(&rt, alloc, second, 6, b"hlo-il 1\n", b"hlo: cannot write\n")?;
         let absent = row(&["opt", "b.c"], zero, &[]);
         expect(&rt, alloc, absent, 5, b"", b"hlo: cannot read b.c\n")?;
+        Ok(())
+    }
+
+    #[test]
+    fn statements(rt: HostRuntime) -> Result<(), Fail> {
+        let alloc = rt.alloc();
+        let opt: &[&str] = &["opt", "a.c"];
+        let row = |text| Row {
+            words: opt,
+            text,
+            failing: &[],
+        };
+        let refused: &[u8] = b"hlo: a.c: NotYet\n";
+        let nested: &[u8] = b"int main(void){((7)) - (1 - 2); return 1; return 0;}";
+        let undeclared: &[u8] = b"int main(void){return getchar();}";
+        let late: &[u8] = b"\n#include <stdio.h>\nint main(void){return getchar();}";
+        expect(&rt, alloc, row(INCREMENT), 0, INCREMENTED, b"")?;
+        expect(&rt, alloc, row(nested), 0, NESTED, b"")?;
+        expect(&rt, alloc, row(undeclared), 3, b"", refused)?;
+        expect(&rt, alloc, row(late), 3, b"", refused)?;
+        Ok(())
+    }
+
+    /// `int main(void){return 1+1+..;}` with so many ones.
+    fn ones(alloc: Global, count: usize) -> Result<Vec<u8>, AllocError> {
+        let mut text = b"int main(void){return 1".to_vec(alloc)?;
+        for _ in 1..count {
+            text.extend_from_slice(b"+1")?;
+        }
+        text.extend_from_slice(b";}")?;
+        Ok(text)
+    }
+
+    /// A statement of 100 primary expressions is accepted: 100 constants, 99 sums, the constant of the
+    /// last return, and two ends. One of 101 isn't.
+    #[test]
+    fn longest_statement(rt: HostRuntime) -> Result<(), Fail> {
+        let alloc = rt.alloc();
+        let text = ones(alloc, 100)?;
+        let row = Row {
+            words: &["opt", "a.c"],
+            text: text.as_slice(),
+            failing: &[],
+        };
+        let got = answer_to(alloc, &row)?;
+        assert_eq!(&rt; got.cost, Some(202 * 202));
+        let text = ones(alloc, 101)?;
+        let row = Row {
+            words: &["opt", "a.c"],
+            text: text.as_slice(),
+            failing: &[],
+        };
+        expect(&rt, alloc, row, 3, b"", b"hlo: a.c: NotYet\n")?;
         Ok(())
     }
 
