@@ -2,10 +2,16 @@
 //! lists: [`Seq`] and [`Name`].
 #![tactic(auto)]
 
+mod conversions;
 mod name;
+mod operators;
 mod seq;
+#[cfg(test)]
+mod tests;
 mod word;
 
+pub use conversions::{convert, promote, usual};
 pub use name::Name;
+pub use operators::binary;
 pub use seq::Seq;
 pub use word::{Op, Trap, Ty, Word};

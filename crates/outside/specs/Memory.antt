@@ -2,6 +2,7 @@
 use Rattle.std.specs.Prelude.{ℕ, Bool, List}
 use Rattle.outside.specs.Calls.{CallCounts}
 use Rattle.outside.specs.Files.{File}
+use Rattle.outside.specs.declared.source.Ask.{Ask}
 
 -- a sink or a disk in memory: its bytes, and its calls
 pub record KeptBytes : Type 0 where
@@ -24,3 +25,14 @@ pub record Bent : Type 0 where
   pub read : ℕ
   pub bit : ℕ
   pub reads : ℕ
+
+-- a source that never fails: its bytes left, and its calls
+pub record GivenBytes : Type 0 where
+  pub left : List ℕ
+  pub asks : List Ask
+
+-- a source in memory: its bytes left, its calls, and which of them fail
+pub record GivenOrFailed : Type 0 where
+  pub left : List ℕ
+  pub asks : List Ask
+  pub calls : CallCounts

@@ -12,6 +12,8 @@ mod memory;
 mod places;
 mod shelf;
 mod sink;
+mod source;
+mod sources;
 mod sure;
 mod unkept;
 
@@ -22,4 +24,6 @@ pub use gate::{Gate, Moment};
 pub use memory::{MemShelf, MemSink};
 pub use shelf::{ReadFault, Shelf, read_whole};
 pub use sink::{Sink, write_all};
+pub use source::{Ask, Source};
+pub use sources::{MemSource, SureSource};
 pub use sure::{QuietGate, SureDisk, SureShelf, SureSink};
