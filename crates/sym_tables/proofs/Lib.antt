@@ -1,0 +1,9 @@
+pub mod Changes
+pub mod Entries
+pub mod Least
+pub mod Limits
+pub mod Listings
+pub mod Lists
+pub mod Meets
+pub mod Refusals
+pub mod Tables
