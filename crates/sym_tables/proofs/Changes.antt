@@ -1,6 +1,6 @@
 -- A table that has taken in a use, a declaration or a definition keeps its numbers.
-use Rattle.std.proofs.Common.{◌≡◌, ℕ, ◌+◌, ◌<◌, ◌≤◌, ◌^◌, ◌==◌, Bool, true, false, if◌then◌else◌, min, List, [], ◌∷◌, ◌++◌, length, take, Option, Some, None, refl, sym, ap, ◌∙◌, subst, arith}
-use Rattle.std.specs.List.{AllByRecursion, list_any}
+use Rattle.std.proofs.Common.{◌≡◌, ℕ, ◌+◌, ◌≤◌, ◌==◌, Bool, true, false, if◌then◌else◌, min, List, [], ◌∷◌, ◌++◌, length, Some, None, refl, sym, ap, ◌∙◌, arith}
+use Rattle.std.specs.List.{list_any}
 use Rattle.std.specs.Map.{values_of}
 use Rattle.hlo_num.specs.declared.word.Word.{Word}
 use Rattle.indexmap.specs.Layout.{set_value_at, length-set_value_at}
@@ -12,7 +12,7 @@ use Rattle.sym_tables.specs.Sound.{IsKept, FitsWords}
 use Rattle.sym_tables.specs.Symbols.{met, is_open, routine_part, element_part}
 use Rattle.sym_tables.specs.Table.{Table, symbol_at, is_past_limits, is_wide}
 use Rattle.sym_tables.proofs.Least.{least_used, least_met, least_added}
-use Rattle.sym_tables.proofs.Limits.{within, past_is, not_past}
+use Rattle.sym_tables.proofs.Limits.{within, not_past}
 use Rattle.sym_tables.proofs.Lists.{any_none, any_set, all_at, values_set, length_values}
 use Rattle.sym_tables.proofs.Meets.{closed_met, fits_met}
 use Rattle.sym_tables.proofs.Tables.{kept_set, kept_added, routines_set, elements_set}

@@ -1,18 +1,12 @@
 -- The PID of a name decides what a declaration or definition of it makes.
-use Rattle.std.proofs.Common.{◌≡◌, ℕ, ◌+◌, List, [], ◌∷◌, ◌++◌, length, position, Option, Some, None, refl, sym, ap, ◌∙◌, subst}
-use Rattle.std.specs.List.{position_or_len, slice_get}
-use Rattle.std.specs.Map.{keys_of, values_of, lookup}
-use Rattle.std.proofs.lemmas.Map.Entries.{length-keys_of}
+use Rattle.std.proofs.Common.{◌≡◌, ℕ, List, [], ◌∷◌, ◌++◌, length, Some, None, refl, sym, ap, ◌∙◌, subst}
 use Rattle.hlo_num.specs.declared.word.Word.{Word}
-use Rattle.indexmap.specs.IndexMap.{insert_entry}
-use Rattle.indexmap.specs.Layout.{set_value_at}
 use Rattle.indexmap.proofs.MapLemmas.{Found-position, insert_entry-first, insert_entry-absent, absent_from_lookup, or_len-absent}
 use Rattle.sym_tables.specs.declared.entity.Entity.{Entity}
 use Rattle.sym_tables.specs.declared.fault.SymFault.{SymFault}
 use Rattle.sym_tables.specs.declared.symbol.Standing.{Standing}
-use Rattle.sym_tables.specs.declared.symbol.Symbol.{Symbol}
 use Rattle.sym_tables.specs.Symbols.{met}
-use Rattle.sym_tables.specs.Table.{Table, same_name, pid_of, number_of, symbol_of, symbol_at, enter, refusal, refusal_of, IsEntered, IsTold}
+use Rattle.sym_tables.specs.Table.{Table, same_name, pid_of, symbol_of, symbol_at, enter, refusal, refusal_of, IsEntered, IsTold}
 use Rattle.sym_tables.proofs.Refusals.{set_met}
 
 module _ (standing : Standing) (name : List ℕ) (said : Entity) (init : List Word) (old : Table) (at : ℕ) (p : pid_of old name ≡ Some at) where

@@ -1,11 +1,10 @@
 -- The bound below which nothing is used and not defined.
-use Rattle.std.proofs.Common.{◌≡◌, ℕ, zero, suc, cond, nat_lt, position, ◌+◌, ◌<◌, ◌≤◌, ◌==◌, Bool, true, false, if◌then◌else◌, min, List, [], ◌∷◌, ◌++◌, take, length, Option, Some, None, refl, sym, ap, ◌∙◌, subst, arith}
+use Rattle.std.proofs.Common.{◌≡◌, ℕ, zero, suc, cond, nat_lt, position, ◌+◌, ◌<◌, ◌≤◌, ◌==◌, Bool, true, false, if◌then◌else◌, min, List, [], ◌∷◌, ◌++◌, take, length, Some, None, refl, sym, ap, ◌∙◌, subst, arith}
 use Rattle.std.specs.List.{AllByRecursion, position_or_len, slice_get, slice_set}
 use Rattle.std.proofs.lemmas.Bool.Decides.{nat_tests}
 use Rattle.sym_tables.specs.declared.symbol.Symbol.{Symbol}
-use Rattle.sym_tables.specs.Symbols.{met, is_open}
+use Rattle.sym_tables.specs.Symbols.{is_open}
 use Rattle.sym_tables.proofs.Lists.{front_set, front_less, front_more, front_at, front_added, get_set, get_added}
-use Rattle.sym_tables.proofs.Meets.{closed_met}
 
 abbrev pub IsClosed : Symbol → Type 0
 IsClosed s = is_open s ≡ false

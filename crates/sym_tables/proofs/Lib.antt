@@ -6,4 +6,5 @@ pub mod Listings
 pub mod Lists
 pub mod Meets
 pub mod Refusals
+pub mod Samples
 pub mod Tables

@@ -1,17 +1,17 @@
 -- Shapes and objects of one more name.
-use Rattle.std.proofs.Common.{◌≡◌, ℕ, zero, suc, ◌+◌, ◌-◌, ◌<◌, ◌≤◌, ◌^◌, ◌==◌, Bool, true, false, IsFalse, nat_lt, if◌then◌else◌, List, [], ◌∷◌, ◌++◌, length, take, get_or, Option, Some, None, refl, sym, ap, ◌∙◌, subst, arith, add-one, append_assoc, append-nil}
+use Rattle.std.proofs.Common.{◌≡◌, ℕ, zero, suc, ◌+◌, ◌-◌, ◌<◌, ◌≤◌, ◌^◌, ◌==◌, true, false, if◌then◌else◌, List, [], ◌∷◌, ◌++◌, length, take, get_or, Option, Some, None, refl, sym, ap, ◌∙◌, arith, add-one, append_assoc, append-nil}
 use Rattle.std.specs.List.{list_any, slice_get}
 use Rattle.std.specs.Map.{values_of}
 use Rattle.std.proofs.Math.Seq.{take-suc}
 use Rattle.std.proofs.lemmas.Bool.Decides.{nat_tests}
 use Rattle.hlo_num.specs.declared.word.Word.{Word}
-use Rattle.il_core.specs.Object.{ObjectParts, ends_with_zero, IsTrimmed}
+use Rattle.il_core.specs.Object.{ends_with_zero, IsTrimmed}
 use Rattle.il_core.specs.Shapes.{IsRising, IsRisingFrom}
 use Rattle.il_core.specs.declared.shape.Shape.{Shape}
 use Rattle.il_core.specs.declared.shape.ShapeRow.{ShapeRow}
 use Rattle.sym_tables.specs.declared.symbol.Symbol.{Symbol}
-use Rattle.sym_tables.specs.Entities.{words, parameters}
-use Rattle.sym_tables.specs.Listing.{shape_of, shapes_from, shapes, is_object, objects_at, objects_from, objects, trimmed, before}
+use Rattle.sym_tables.specs.Entities.{parameters}
+use Rattle.sym_tables.specs.Listing.{shape_of, shapes_from, shapes, objects_at, objects_from, objects, trimmed, before}
 use Rattle.sym_tables.specs.Table.{Table, is_wide}
 use Rattle.sym_tables.proofs.Limits.{at_most}
 use Rattle.sym_tables.proofs.Lists.{any_none}

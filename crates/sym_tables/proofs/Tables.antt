@@ -1,18 +1,16 @@
 -- A table stays sound, and its kept numbers stay true.
-use Rattle.std.proofs.Common.{◌≡◌, ℕ, zero, suc, Bor, MutBor, ◌+◌, ◌<◌, ◌≤◌, ◌^◌, Bool, true, false, List, [], ◌∷◌, ◌++◌, length, length-append, take, nat_lt, Option, Some, None, refl, sym, ap, ◌∙◌, subst, arith, sum_by}
+use Rattle.std.proofs.Common.{◌≡◌, ℕ, zero, suc, Bor, MutBor, ◌+◌, ◌≤◌, true, false, List, [], ◌∷◌, ◌++◌, length, length-append, take, Option, Some, None, sym, ap, ◌∙◌, subst, arith, sum_by}
 use Rattle.std.specs.List.{AllByRecursion, list_any, slice_get, slice_set}
-use Rattle.std.specs.Map.{keys_of, values_of, lookup}
-use Rattle.indexmap.specs.Layout.{set_value_at, length-set_value_at}
-use Rattle.sym_tables.specs.declared.entity.Entity.{Entity}
+use Rattle.std.specs.Map.{values_of}
+use Rattle.indexmap.specs.Layout.{set_value_at}
 use Rattle.sym_tables.specs.declared.symbol.Symbol.{Symbol}
-use Rattle.sym_tables.specs.Entities.{words, compatible}
-use Rattle.sym_tables.specs.Sound.{FitsWords, IsSound, IsKept}
-use Rattle.sym_tables.specs.Symbols.{met, is_open, routine_part, element_part}
+use Rattle.sym_tables.specs.Sound.{FitsWords, IsKept}
+use Rattle.sym_tables.specs.Symbols.{is_open, routine_part, element_part}
 use Rattle.std.specs.Map.Iter.{deref_pair}
 use Rattle.std.specs.Option.{option_map, option_copied_mut}
 use Rattle.sym_tables.specs.Table.{Table, mark, routines, elements, is_wide, is_past_limits, symbol_at}
 use Rattle.sym_tables.proofs.Limits.{Within}
-use Rattle.sym_tables.proofs.Lists.{values_set, values_added, sum_set, sum_added, part_le, any_set, any_added, any_none, all_set, all_added, all_at, front_set, front_less, front_more, front_at, front_added, front_of_all, all_of_front, get_added, get_set, value_at, length_values}
+use Rattle.sym_tables.proofs.Lists.{values_set, values_added, sum_set, sum_added, part_le, any_added, all_set, all_added, value_at}
 
 abbrev r_of : Symbol → ℕ
 r_of s = routine_part s.entity s.standing

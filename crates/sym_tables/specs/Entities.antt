@@ -1,5 +1,5 @@
 -- What names stand for: sizes, and what two declarations of one name say together (C90, 6.1.2.6).
-use Rattle.std.specs.Prelude.{ℕ, Bool, true, false, ◌&&◌, ◌==◌, Option, Some, None, List, length, if◌then◌else◌}
+use Rattle.std.specs.Prelude.{ℕ, Bool, true, false, ◌&&◌, ◌==◌, Option, Some, None, length, if◌then◌else◌}
 use Rattle.std.specs.Option.{option_eq, unwrap_or}
 use Rattle.std.specs.Bool.{beq}
 use Rattle.std.specs.Cmp.Lexicographic.{pointwise}

@@ -1,5 +1,5 @@
 -- The shapes and the objects of a program, by PID.
-use Rattle.std.specs.Prelude.{ℕ, suc, Bool, not, ◌&&◌, ◌==◌, List, [], ◌∷◌, ◌++◌, length, Option, if◌then◌else◌, nat_lt, is_some}
+use Rattle.std.specs.Prelude.{ℕ, suc, Bool, not, ◌&&◌, ◌==◌, List, [], ◌∷◌, ◌++◌, length, if◌then◌else◌, nat_lt, is_some}
 use Rattle.hlo_num.specs.declared.word.Word.{Word}
 use Rattle.il_core.specs.Object.{ObjectParts}
 use Rattle.il_core.specs.declared.shape.Shape.{Shape}

@@ -1,5 +1,5 @@
 -- What is known of one name, and how it changes.
-use Rattle.std.specs.Prelude.{ℕ, Bool, true, false, ◌&&◌, Option, Some, None, List, [], if◌then◌else◌}
+use Rattle.std.specs.Prelude.{ℕ, Bool, true, false, ◌&&◌, Option, Some, None, List, if◌then◌else◌}
 use Rattle.std.specs.Option.{unwrap_or}
 use Rattle.hlo_num.specs.declared.word.Word.{Word}
 use Rattle.sym_tables.specs.declared.entity.Entity.{Entity}
@@ -7,7 +7,7 @@ use Rattle.sym_tables.specs.declared.entity.Entity.TheVariants.{Function, Scalar
 use Rattle.sym_tables.specs.declared.symbol.Standing.{Standing}
 use Rattle.sym_tables.specs.declared.symbol.Standing.TheVariants.{Declared, Tentative, Defined}
 use Rattle.sym_tables.specs.declared.symbol.Symbol.{Symbol}
-use Rattle.sym_tables.specs.Entities.{composite, is_function, words}
+use Rattle.sym_tables.specs.Entities.{composite, is_function}
 
 abbrev pub is_declared : Standing → Bool
 is_declared Declared = true

@@ -1,10 +1,9 @@
 -- The names of the program: a list of names and what is known of them, in the order of their first mention. A name's
 -- place is its PID.
-use Rattle.std.specs.Prelude.{◌≡◌, ℕ, zero, suc, ◌^◌, Bool, true, false, ◌&&◌, ◌||◌, List, [], ◌∷◌, ◌++◌, length, Option, Some, None, if◌then◌else◌, nat_lt, nat_eq, sum_by, position}
+use Rattle.std.specs.Prelude.{◌≡◌, ℕ, zero, suc, ◌^◌, Bool, true, false, ◌&&◌, ◌||◌, List, [], ◌∷◌, length, Option, Some, None, if◌then◌else◌, nat_lt, nat_eq, sum_by, position}
 use Rattle.std.specs.Cmp.Lexicographic.{pointwise}
 use Rattle.std.specs.List.{list_any, position_or_len, slice_get}
 use Rattle.std.specs.Map.{keys_of, values_of, lookup}
-use Rattle.std.specs.Option.{option_map}
 use Rattle.hlo_num.specs.declared.word.Word.{Word}
 use Rattle.indexmap.specs.IndexMap.{insert_entry}
 use Rattle.sym_tables.specs.declared.entity.Entity.{Entity}

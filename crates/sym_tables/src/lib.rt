@@ -6,6 +6,8 @@ mod fault;
 mod listing;
 mod symbol;
 mod table;
+#[cfg(test)]
+mod tests;
 
 pub use entity::Entity;
 pub use fault::SymFault;

@@ -1,11 +1,11 @@
 //! The shapes and the objects of a program.
 ghost use Rattle.std.specs.Prelude.{◌≡◌, ◌++◌, ◌≤◌, ◌<◌, ◌^◌, false, length, IfOk, OnOk};
-ghost use Rattle.std.specs.List.{list_any, AllByRecursion};
-ghost use Rattle.std.specs.Map.{values_of};
+ghost use Rattle.std.specs.List.{list_any, AllByRecursion, IsDistinct};
+ghost use Rattle.std.specs.Map.{keys_of, values_of};
 ghost use Rattle.sym_tables.specs.Entities.{parameters};
 ghost use Rattle.sym_tables.specs.Listing.{is_object, objects, objects_at, shape_of, shapes, trimmed};
 ghost use Rattle.sym_tables.specs.Sound.{FitsWords};
-ghost use Rattle.sym_tables.specs.Table.{is_wide};
+ghost use Rattle.sym_tables.specs.Table.{is_wide, same_name};
 
 use crate::entity::Entity;
 use crate::symbol::{Standing, Symbol};
@@ -21,7 +21,8 @@ pub(crate) fn shape_rows(
 ) -> Result<Vec<ShapeRow>, AllocError>
     requires few { length symbols.now.entries ≤ 2 ^ 16 }
     requires narrow { list_any is_wide (values_of symbols.now.entries) ≡ false }
-    ensures { IfOk result (λ rows. rows.items ≡ shapes symbols.now.entries) }
+    ensures rows { IfOk result (λ rows. rows.items ≡ shapes symbols.now.entries) }
+    ensures distinct { IsDistinct same_name (keys_of symbols.now.entries) }
 {
     let mut rows = Vec::with_capacity(alloc, symbols.len())?;
     for at in 0..symbols.len() {

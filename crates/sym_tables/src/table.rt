@@ -1,10 +1,12 @@
 //! The program's names.
 ghost use Rattle.std.specs.Prelude.{◌≡◌, ◌≤◌, ◌<◌, ◌+◌, ◌^◌, ◌==◌, ◌++◌, ◌∷◌, [], length, min, nat_lt, ◌&&◌, ◌||◌, Some, None, IfOk, IfErr, OnOk, if◌then◌else◌, slice_get};
 ghost use Rattle.std.specs.Option.{option_map, option_copied};
-ghost use Rattle.std.specs.Map.{lookup};
+ghost use Rattle.std.specs.List.{IsDistinct};
+ghost use Rattle.std.specs.Map.{keys_of, lookup};
 ghost use Rattle.indexmap.specs.Layout.{set_value_at};
 ghost use Rattle.sym_tables.specs.Entities.{words};
 ghost use Rattle.sym_tables.specs.Listing.{objects, shapes};
+ghost use Rattle.sym_tables.specs.Sound.{IsSound};
 ghost use Rattle.sym_tables.specs.Symbols.{is_defined, met};
 ghost use Rattle.sym_tables.specs.Table.{enter, first_open, mark, pid_of, refusal, refusal_of, same_name, symbol_at, symbol_of, IsEntered, IsTold};
 
@@ -188,7 +190,9 @@ impl ProgramSyms {
     /// One row for each name, by PID: what it stands for. An array of unknown length has 0 words there. It
     /// takes one pass over the names.
     pub fn shapes(&self) -> Result<Shapes, AllocError>
-        ensures { IfOk result (λ s. s ≡ shapes self.now) }
+        ensures rows { IfOk result (λ s. s ≡ shapes self.now) }
+        ensures sound { IsSound self.now }
+        ensures distinct { IsDistinct same_name (keys_of self.now) }
     {
         let rows = shape_rows(*self.symbols.allocator(), &self.symbols)?;
         Ok(Shapes {

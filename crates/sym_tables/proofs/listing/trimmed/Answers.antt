@@ -1,5 +1,4 @@
-use Rattle.std.proofs.Common.{sym, ◌∙◌, arith, take, ap}
-use Rattle.sym_tables.specs.Listing.{trimmed}
+use Rattle.std.proofs.Common.{sym, ◌∙◌, arith}
 use Rattle.sym_tables.proofs.Listings.{trim_zero, trim_other, trim_none}
 use Rattle.sym_tables.proofs.listing.trimmed.Goals.{then-loop-kept-test+else-words-kept-eq0, else-loop-kept-test}
 use Rattle.sym_tables.proofs.listing.trimmed.Goals as goal
