@@ -1,13 +1,21 @@
 -- The PID of a name decides what a declaration or definition of it makes.
-use Rattle.std.proofs.Common.{◌≡◌, ℕ, List, [], ◌∷◌, ◌++◌, length, Some, None, refl, sym, ap, ◌∙◌, subst}
+use Rattle.std.proofs.Common.{◌≡◌, ℕ, Bool, true, false, Option, if◌then◌else◌, List, [], ◌∷◌, ◌++◌, length, Some, None, refl, sym, ap, ◌∙◌, subst}
 use Rattle.hlo_num.specs.declared.word.Word.{Word}
 use Rattle.indexmap.proofs.MapLemmas.{Found-position, insert_entry-first, insert_entry-absent, absent_from_lookup, or_len-absent}
 use Rattle.sym_tables.specs.declared.entity.Entity.{Entity}
 use Rattle.sym_tables.specs.declared.fault.SymFault.{SymFault}
+use Rattle.sym_tables.specs.declared.fault.SymFault.TheVariants.{TypeClash, Duplicate, TooMany, Memory}
 use Rattle.sym_tables.specs.declared.symbol.Standing.{Standing}
 use Rattle.sym_tables.specs.Symbols.{met}
-use Rattle.sym_tables.specs.Table.{Table, same_name, pid_of, symbol_of, symbol_at, enter, refusal, refusal_of, IsEntered, IsTold}
+use Rattle.sym_tables.specs.Table.{Table, same_name, pid_of, symbol_of, symbol_at, enter, refusal, refusal_of, IsEntered, IsRefused, IsTold}
 use Rattle.sym_tables.proofs.Refusals.{set_met}
+
+-- what is wrong is never want of memory
+never_memory : (a b p : Bool) (fault : SymFault) → (if a then Some TypeClash else (if b then Some Duplicate else (if p then Some TooMany else None))) ≡ Some fault → fault ≡ Memory → ⊥
+never_memory true b p fault h m = cc
+never_memory false true p fault h m = cc
+never_memory false false true fault h m = cc
+never_memory false false false fault h m = let o : Option SymFault = None in let c : o ≡ Some fault = h in cc
 
 module _ (standing : Standing) (name : List ℕ) (said : Entity) (init : List Word) (old : Table) (at : ℕ) (p : pid_of old name ≡ Some at) where
   known_there : symbol_of old name ≡ symbol_at old at
@@ -28,8 +36,12 @@ module _ (standing : Standing) (name : List ℕ) (said : Entity) (init : List Wo
     table = h.1 ∙ sym made_there;
   }
 
-  pub told_there : (fault : SymFault) (new : Table) → (new ≡ old) × (refusal_of (symbol_at old at) standing said (set_met standing said init old at (symbol_at old at)) ≡ Some fault) → (new ≡ old) × IsTold (refusal standing name said init old) fault
-  told_there fault new h = (h.0, subst (λ r. IsTold r fault) (sym (refusal_there ∙ h.1)) refl)
+  pub told_there : (fault : SymFault) (new : Table) → (new ≡ old) × (refusal_of (symbol_at old at) standing said (set_met standing said init old at (symbol_at old at)) ≡ Some fault) → IsRefused standing name said init old fault new
+  told_there fault new h = record {
+    unchanged = h.0;
+    told = subst (λ r. IsTold r fault) (sym (refusal_there ∙ h.1)) refl;
+    memory = λ m. absurd (never_memory _ _ _ fault h.1 m);
+  }
 
 module _ (standing : Standing) (name : List ℕ) (said : Entity) (init : List Word) (old : Table) (none : symbol_of old name ≡ None) where
   added : Table
@@ -50,5 +62,5 @@ module _ (standing : Standing) (name : List ℕ) (said : Entity) (init : List Wo
     table = h.1 ∙ sym made_new;
   }
 
-  pub told_new : (fault : SymFault) (new : Table) → (new ≡ old) × IsTold (refusal_of None standing said (old ++ (name, met standing said init None) ∷ [])) fault → (new ≡ old) × IsTold (refusal standing name said init old) fault
-  told_new fault new h = (h.0, subst (λ r. IsTold r fault) (sym refusal_new) h.1)
+  pub told_new : (fault : SymFault) (new : Table) → (new ≡ old) × IsTold (refusal_of None standing said (old ++ (name, met standing said init None) ∷ [])) fault → IsRefused standing name said init old fault new
+  told_new fault new h = record { unchanged = h.0; told = subst (λ r. IsTold r fault) (sym refusal_new) h.1; memory = λ m. none }

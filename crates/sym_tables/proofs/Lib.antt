@@ -1,3 +1,4 @@
+pub mod Agreement
 pub mod Changes
 pub mod Entries
 pub mod Least

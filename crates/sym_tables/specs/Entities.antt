@@ -4,13 +4,14 @@ use Rattle.std.specs.Option.{option_eq, unwrap_or}
 use Rattle.std.specs.Bool.{beq}
 use Rattle.std.specs.Cmp.Lexicographic.{pointwise}
 use Rattle.hlo_num.specs.declared.word.Ty.{Ty}
-use Rattle.hlo_num.specs.contracts.word.TyPartialEq.TheImpl as types
+use Rattle.hlo_num.specs.contracts.word.Ty.{the_type}
+use denote.Enum.Bare.{sameb}
 use Rattle.sym_tables.specs.declared.entity.Entity.{Entity}
 use Rattle.sym_tables.specs.declared.entity.Entity.TheVariants.{Function, Scalar, Array}
 
 -- types are the same
 abbrev pub same_type : Ty → Ty → Bool
-same_type = (types.ghosts).eq
+same_type = sameb the_type
 
 -- the words of an object; none for a function, or while a length is unknown
 abbrev pub words : Entity → ℕ

@@ -94,3 +94,10 @@ pub record IsEntered (standing : Standing) (name : List ℕ) (said : Entity) (in
   pub accepted : refusal standing name said init old ≡ None
   pub number : pid ≡ number_of old name
   pub table : new ≡ enter standing name said init old
+
+-- a declaration or definition that was refused: nothing has changed, the first thing that is wrong is told, and want
+-- of memory only for a new name
+pub record IsRefused (standing : Standing) (name : List ℕ) (said : Entity) (init : List Word) (old : Table) (fault : SymFault) (new : Table) : Type 0 where
+  pub unchanged : new ≡ old
+  pub told : IsTold (refusal standing name said init old) fault
+  pub memory : fault ≡ Memory → symbol_of old name ≡ None

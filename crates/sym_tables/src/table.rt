@@ -8,7 +8,7 @@ ghost use Rattle.sym_tables.specs.Entities.{words};
 ghost use Rattle.sym_tables.specs.Listing.{objects, shapes};
 ghost use Rattle.sym_tables.specs.Sound.{IsSound};
 ghost use Rattle.sym_tables.specs.Symbols.{is_defined, met};
-ghost use Rattle.sym_tables.specs.Table.{enter, first_open, mark, pid_of, refusal, refusal_of, same_name, symbol_at, symbol_of, IsEntered, IsTold};
+ghost use Rattle.sym_tables.specs.Table.{enter, first_open, mark, pid_of, refusal_of, same_name, symbol_at, symbol_of, IsEntered, IsRefused, IsTold};
 
 use crate::entity::{Entity, compatible, composite};
 use crate::fault::SymFault;
@@ -149,7 +149,7 @@ impl ProgramSyms {
     /// and time in proportion to the parameters of a function.
     pub fn declare(&mut self, name: &Name, e: Entity) -> Result<u32, SymFault>
         ensures ok { IfOk result (λ pid. IsEntered Standing.Declared name.now e [] self.old pid self.new) }
-        ensures err { IfErr result (λ fault. (self.new ≡ self.old) × IsTold (refusal Standing.Declared name.now e [] self.old) fault) }
+        ensures err { IfErr result (λ fault. IsRefused Standing.Declared name.now e [] self.old fault self.new) }
     {
         let none = Seq::new(*self.symbols.allocator());
         self.enter(name, Standing::Declared, e, none)
@@ -159,7 +159,7 @@ impl ProgramSyms {
     /// comes. A definition that is there stays.
     pub fn tentative(&mut self, name: &Name, e: Entity) -> Result<u32, SymFault>
         ensures ok { IfOk result (λ pid. IsEntered Standing.Tentative name.now e [] self.old pid self.new) }
-        ensures err { IfErr result (λ fault. (self.new ≡ self.old) × IsTold (refusal Standing.Tentative name.now e [] self.old) fault) }
+        ensures err { IfErr result (λ fault. IsRefused Standing.Tentative name.now e [] self.old fault self.new) }
     {
         let none = Seq::new(*self.symbols.allocator());
         self.enter(name, Standing::Tentative, e, none)
@@ -171,7 +171,7 @@ impl ProgramSyms {
     pub fn define(&mut self, name: &Name, e: Entity, init: Vec<Word>) -> Result<u32, SymFault>
         requires { length init.items ≤ words e }
         ensures ok { IfOk result (λ pid. IsEntered Standing.Defined name.now e init.items self.old pid self.new) }
-        ensures err { IfErr result (λ fault. (self.new ≡ self.old) × IsTold (refusal Standing.Defined name.now e init.items self.old) fault) }
+        ensures err { IfErr result (λ fault. IsRefused Standing.Defined name.now e init.items self.old fault self.new) }
     {
         self.enter(name, Standing::Defined, e, Seq::from_vec(init))
     }
@@ -304,7 +304,7 @@ impl ProgramSyms {
     ) -> Result<u32, SymFault>
         requires { length init ≤ words said }
         ensures ok { IfOk result (λ pid. IsEntered standing name.now said init self.old pid self.new) }
-        ensures err { IfErr result (λ fault. (self.new ≡ self.old) × IsTold (refusal standing name.now said init self.old) fault) }
+        ensures err { IfErr result (λ fault. IsRefused standing name.now said init self.old fault self.new) }
     {
         match self.symbols.get_index_of(name) {
             Some(at) => self.meet(at, standing, said, init),
