@@ -9,8 +9,11 @@ use hlo_num::{Seq, Word};
 /// definition comes.
 #[derive(Clone, Copy, Debug, PartialEq, Eq)]
 pub enum Standing {
+    /// Only declared.
     Declared,
+    /// Tentatively defined, and not defined.
     Tentative,
+    /// Defined.
     Defined,
 }
 

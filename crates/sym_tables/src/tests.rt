@@ -62,7 +62,7 @@ fn length_that_comes_later(rt: HostRuntime) -> Result<(), Fail> {
     Ok(())
 }
 
-/// The name of the number n below 65,536 + 1 in four letters, with one letter more from 65,536 on.
+/// The number in base 16, in five letters from `a` on.
 fn numbered(alloc: Global, n: u32) -> Result<Name, AllocError> {
     let letter = |place: u32| b'a' + (n / place % 16) as u8;
     let bytes = [
