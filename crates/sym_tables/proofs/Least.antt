@@ -1,0 +1,74 @@
+-- The bound below which nothing is used and not defined.
+use Rattle.std.proofs.Common.{◌≡◌, ℕ, zero, suc, cond, nat_lt, position, ◌+◌, ◌<◌, ◌≤◌, ◌==◌, Bool, true, false, if◌then◌else◌, min, List, [], ◌∷◌, ◌++◌, take, length, Some, None, refl, sym, ap, ◌∙◌, subst, arith}
+use Rattle.std.specs.List.{AllByRecursion, position_or_len, slice_get, slice_set}
+use Rattle.std.proofs.lemmas.Bool.Decides.{nat_tests}
+use Rattle.sym_tables.specs.declared.symbol.Symbol.{Symbol}
+use Rattle.sym_tables.specs.Symbols.{is_open}
+use Rattle.sym_tables.proofs.Lists.{front_set, front_less, front_more, front_at, front_added, get_set, get_added}
+
+abbrev pub IsClosed : Symbol → Type 0
+IsClosed s = is_open s ≡ false
+
+same_place : (n m : ℕ) → (n == m) ≡ true → n ≡ m
+same_place n m h = grind (arith, nat_tests)
+
+past_by : (b c : Bool) (xs : List Symbol) (at least : ℕ) (v : Symbol) → is_open v ≡ b → (least == at) ≡ c → AllByRecursion IsClosed (take least xs) → slice_get xs at ≡ Some v →
+    AllByRecursion IsClosed (take (if b then least else (if c then at + 1 else least)) xs)
+past_by true c xs at least v o e h k = h
+past_by false false xs at least v o e h k = h
+past_by false true xs at least v o e h k = front_more IsClosed at xs v (subst (λ n. AllByRecursion IsClosed (take n xs)) (same_place least at e) h) k o
+
+-- after the symbol at a place has become v
+pub past : (xs : List Symbol) (at least n : ℕ) (v : Symbol) → AllByRecursion IsClosed (take least xs) → slice_get xs at ≡ Some v →
+    n ≡ (if is_open v then least else (if least == at then at + 1 else least)) → AllByRecursion IsClosed (take n xs)
+past xs at least n v h k e = subst (λ m. AllByRecursion IsClosed (take m xs)) (sym e) (past_by (is_open v) (least == at) xs at least v refl refl h k)
+
+-- one more declaration was taken in
+pub least_met : (xs : List Symbol) (at least n : ℕ) (s v : Symbol) → AllByRecursion IsClosed (take least xs) → slice_get xs at ≡ Some s → (IsClosed s → IsClosed v) →
+    n ≡ (if is_open v then least else (if least == at then at + 1 else least)) → AllByRecursion IsClosed (take n (slice_set xs at v))
+least_met xs at least n s v h k stays e =
+    past (slice_set xs at v) at least n v (front_set IsClosed least xs at v h (λ l. stays (front_at IsClosed least xs at s h l k))) (get_set xs at s v k) e
+
+-- a name was added
+pub least_added : (xs : List Symbol) (least n : ℕ) (v : Symbol) → AllByRecursion IsClosed (take least xs) → IsClosed v →
+    n ≡ (if false then least else (if least == length xs then length xs + 1 else least)) → AllByRecursion IsClosed (take n (xs ++ v ∷ []))
+least_added xs least n v h k e =
+    past (xs ++ v ∷ []) (length xs) least n v (front_added IsClosed least xs v h k) (get_added xs v) (e ∙ ap (λ b. if b then least else (if least == length xs then length xs + 1 else least)) (sym k))
+
+with_by : (b : Bool) (xs : List Symbol) (at least : ℕ) (v : Symbol) → is_open v ≡ b → AllByRecursion IsClosed (take least xs) → AllByRecursion IsClosed (take (if b then min least at else least) (slice_set xs at v))
+with_by true xs at least v o h = front_set IsClosed (min least at) xs at v (front_less IsClosed (min least at) least xs (omega arith) h) (λ l. absurd (omega arith))
+with_by false xs at least v o h = front_set IsClosed least xs at v h (λ l. o)
+
+-- a name was used
+pub least_used : (xs : List Symbol) (at least n : ℕ) (v : Symbol) → AllByRecursion IsClosed (take least xs) → n ≡ (if is_open v then min least at else least) → AllByRecursion IsClosed (take n (slice_set xs at v))
+least_used xs at least n v h e = subst (λ m. AllByRecursion IsClosed (take m (slice_set xs at v))) (sym e) (with_by (is_open v) xs at least v refl h)
+
+-- the first place that is open
+len_found : (xs : List Symbol) (n : ℕ) (x : Symbol) → AllByRecursion IsClosed (take n xs) → slice_get xs n ≡ Some x → is_open x ≡ true → position_or_len is_open xs ≡ n
+len_found [] n x h k o = let c : None ≡ Some x = k in absurd cc
+len_found (y ∷ xs) zero x h k o = let e : y ≡ x = (let c : Some y ≡ Some x = k in cc) in let t : is_open y ≡ true = ap is_open e ∙ o in rw t refl
+len_found (y ∷ xs) (suc n) x h k o = let r = len_found xs n x h.1 k o in let f : is_open y ≡ false = h.0 in rw (f, r) (omega arith)
+
+len_none : (xs : List Symbol) (n : ℕ) → AllByRecursion IsClosed (take n xs) → length xs ≤ n → position_or_len is_open xs ≡ length xs
+len_none [] n h l = refl
+len_none (y ∷ xs) zero h l = absurd (omega arith)
+len_none (y ∷ xs) (suc n) h l = let r = len_none xs n h.1 (omega arith) in let f : is_open y ≡ false = h.0 in rw (f, r) (omega arith)
+
+within_get : (xs : List Symbol) (n : ℕ) (x : Symbol) → slice_get xs n ≡ Some x → n < length xs
+within_get [] n x k = let c : None ≡ Some x = k in absurd cc
+within_get (y ∷ xs) zero x k = omega arith
+within_get (y ∷ xs) (suc n) x k = let r = within_get xs n x k in omega arith
+
+below : (n m : ℕ) → n < m → nat_lt n m ≡ true
+below n m h = grind (arith, nat_tests)
+
+not_below : (n : ℕ) → nat_lt n n ≡ false
+not_below n = grind (arith, nat_tests)
+
+pub first_found : (xs : List Symbol) (n : ℕ) (x : Symbol) → AllByRecursion IsClosed (take n xs) → slice_get xs n ≡ Some x → is_open x ≡ true → position is_open xs ≡ Some n
+first_found xs n x h k o = let r = len_found xs n x h k o in let l = below n (length xs) (within_get xs n x k) in
+    ap (λ i. cond (nat_lt i (length xs)) (Some i) None) r ∙ ap (λ b. cond b (Some n) None) l
+
+pub none_found : (xs : List Symbol) (n : ℕ) → AllByRecursion IsClosed (take n xs) → length xs ≤ n → position is_open xs ≡ None
+none_found xs n h l = let r = len_none xs n h l in
+    ap (λ i. cond (nat_lt i (length xs)) (Some i) None) r ∙ ap (λ b. cond b (Some (length xs)) None) (not_below (length xs))

@@ -1,0 +1,5 @@
+pub mod Entities
+pub mod Listing
+pub mod Sound
+pub mod Symbols
+pub mod Table

@@ -1,0 +1,15 @@
+//! The program's names: what each stands for, its PID, and what is known of its definition.
+#![tactic(auto)]
+
+mod entity;
+mod fault;
+mod listing;
+mod symbol;
+mod table;
+#[cfg(test)]
+mod tests;
+
+pub use entity::Entity;
+pub use fault::SymFault;
+pub use symbol::{Standing, Symbol};
+pub use table::ProgramSyms;
