@@ -66,6 +66,7 @@ pub fn len(n: u32) -> u32
 #[tactic(auto, using(crate::proofs::Numbers::in_five))]
 pub fn take(b: &[u8], at: usize) -> Option<(u32, usize)>
     requires { at ≤ length b.now }
+    ensures word { IfSome result (λ x. x.0 < 2 ^ 32) }
     ensures within { IfSome result (λ x. x.1 ≤ length b.now) }
     ensures found { IfSome result (λ x. IsSpelledAt b.now at x.0 x.1) }
     ensures none { IfNone result ((n end : ℕ) → n < 2 ^ 32 → end ≤ length b.now → IsSpelledAt b.now at n end → ⊥) }

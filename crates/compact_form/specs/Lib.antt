@@ -1,0 +1,9 @@
+pub mod Bounds
+pub mod Compact
+pub mod Forms
+pub mod Laws
+pub mod Lists
+pub mod Numbers
+pub mod Reading
+pub mod Routines
+pub mod Spellings
