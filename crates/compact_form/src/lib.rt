@@ -12,3 +12,6 @@ mod row;
 mod writing;
 
 pub use body::RoutineBody;
+
+#[cfg(test)]
+mod tests;
