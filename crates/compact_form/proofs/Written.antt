@@ -1,12 +1,11 @@
 -- What is written, put together.
-use Rattle.std.proofs.Common.{◌≡◌, ℕ, ◌+◌, ◌<◌, ◌≤◌, ◌^◌, List, [], ◌∷◌, ◌++◌, length, take, flat_map, refl, sym, ◌∙◌, ap, arith, append-nil, append_assoc, length-append}
+use Rattle.std.proofs.Common.{◌≡◌, ℕ, ◌+◌, List, [], ◌∷◌, ◌++◌, length, flat_map, refl, sym, ◌∙◌, ap, arith, append_assoc, length-append}
 use Rattle.std.proofs.lemmas.List.Concat.{flat_map-cons}
 use Rattle.il_core.specs.declared.instr.Block.{Block}
 use Rattle.il_core.specs.declared.instr.Instr.{Instr}
-use Rattle.il_core.specs.declared.instr.End.{End}
 use Rattle.il_core.specs.Routine.{RoutineParts}
 use Rattle.compact_form.specs.Numbers.{forms, spelled, spelled_all}
-use Rattle.compact_form.specs.Compact.{opcode, operands, instr_form, end_opcode, end_operands, end_form, counted, block_form, flag, head_numbers, compact}
+use Rattle.compact_form.specs.Compact.{instr_form, end_form, counted, block_form, head_numbers, compact}
 
 pub forms_flat : {X : Type 0} (f : X → List ℕ) (xs : List X) → flat_map f xs ≡ forms f xs
 forms_flat f [] = refl

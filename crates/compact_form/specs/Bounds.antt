@@ -1,6 +1,6 @@
 -- A compact form has at least one byte, and at most as many as the routine is charged with.
-use Rattle.std.proofs.Common.{◌≡◌, ℕ, ◌+◌, ◌*◌, ◌^◌, ◌<◌, ◌≤◌, List, [], ◌∷◌, ◌++◌, Option, Some, None, length, refl, sym, ◌∙◌, ap, arith, length-append}
-use Rattle.std.specs.Prelude.{sum, sum_by}
+use Rattle.std.proofs.Common.{◌≡◌, ℕ, ◌+◌, ◌*◌, ◌^◌, ◌≤◌, List, [], ◌∷◌, ◌++◌, Some, None, length, arith, length-append}
+use Rattle.std.specs.Prelude.{sum_by}
 use Rattle.std.specs.List.{AllByRecursion}
 use Rattle.std.proofs.lemmas.List.Sums.{sum_by-cons}
 use Rattle.il_core.specs.declared.instr.Block.{Block}
@@ -9,11 +9,11 @@ use Rattle.il_core.specs.declared.instr.Instr.TheVariants.{Const, Move, Conv, Bi
 use Rattle.il_core.specs.declared.instr.End.{End}
 use Rattle.il_core.specs.declared.instr.End.TheVariants.{Jump, Branch, Loop, Return, Exit}
 use Rattle.il_core.specs.Limits.{IsInstr, IsBlock}
-use Rattle.il_core.specs.Ranges.{AreWords, numbers_of}
+use Rattle.il_core.specs.Ranges.{AreWords}
 use Rattle.il_core.specs.Routine.{RoutineParts}
 use Rattle.il_core.specs.Size.{block_size, blocks_size, arguments, block_arguments, blocks_arguments, charge}
 use Rattle.compact_form.specs.Numbers.{forms, spelled, spelled_all}
-use Rattle.compact_form.specs.Compact.{number_of, operands, instr_form, end_operands, end_form, counted, block_form, flag, head_numbers, compact, IsRoutine}
+use Rattle.compact_form.specs.Compact.{number_of, instr_form, end_form, counted, block_form, flag, head_numbers, compact, IsRoutine}
 use Rattle.compact_form.specs.Reading.{max_size}
 use Rattle.compact_form.specs.Forms.{number_is_word, Fits, EndFits, BlockFits}
 use Rattle.compact_form.specs.Spellings.{spelled_short}

@@ -1,7 +1,6 @@
 -- The compact form of a routine. An instruction or an end is an opcode's byte and its numbers; a list is its length and
 -- its items. Routines and objects are named by their PIDs alone.
-use Rattle.std.specs.Prelude.{ℕ, ◌+◌, ◌<◌, ◌^◌, Bool, true, false, List, [], ◌∷◌, ◌++◌, Option, Some, None, length}
-use Rattle.std.specs.List.{AllByRecursion}
+use Rattle.std.specs.Prelude.{ℕ, ◌+◌, Bool, true, false, List, [], ◌∷◌, ◌++◌, Some, None, length}
 use Rattle.hlo_num.specs.declared.word.Op.{Op}
 use Rattle.hlo_num.specs.declared.word.Op.TheVariants.{AddS, AddU, SubS, SubU, MulS, MulU, DivS, DivU, RemS, RemU, And, Or, Xor, Shl, ShrS, ShrU, Eq, Ne, LtS, LtU, LeS, LeU}
 use Rattle.hlo_num.specs.declared.word.Ty.{Ty}

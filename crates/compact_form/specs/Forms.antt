@@ -1,6 +1,6 @@
 -- What is read is what the compact form has, on both sides.
-use Rattle.std.proofs.Common.{◌≡◌, ℕ, zero, suc, ◌+◌, ◌-◌, ◌<◌, ◌≤◌, ◌^◌, Bool, true, false, List, [], ◌∷◌, ◌++◌, length, sum, Option, Some, None, refl, sym, ◌∙◌, ap, subst, arith, append-nil, append_assoc}
-use Rattle.std.specs.Prelude.{◌==◌, ◌&&◌, IsTrue, nat_lt, nat_le, if◌then◌else◌}
+use Rattle.std.proofs.Common.{◌≡◌, ℕ, ◌+◌, ◌-◌, ◌<◌, ◌≤◌, ◌^◌, Bool, true, false, List, [], ◌∷◌, ◌++◌, length, Option, Some, None, refl, sym, ◌∙◌, ap, subst, arith, append-nil, append_assoc}
+use Rattle.std.specs.Prelude.{◌==◌, IsTrue, nat_lt, nat_le, if◌then◌else◌}
 use Rattle.std.specs.List.{AllByRecursion}
 use Rattle.std.proofs.lemmas.Bool.{lt-ltb, ltb-true, ltb-false, le-leb, leb-true, eqb-true}
 use Rattle.hlo_num.specs.declared.word.Op.{Op}
@@ -13,16 +13,14 @@ use Rattle.il_core.specs.declared.instr.Instr.{Instr}
 use Rattle.il_core.specs.declared.instr.Instr.TheVariants.{Const, Move, Conv, Bin, Get, Set, GetX, SetX, GetA, SetA, Clear, Turn, Call, GetChar, PutChar}
 use Rattle.il_core.specs.declared.instr.End.{End}
 use Rattle.il_core.specs.declared.instr.End.TheVariants.{Jump, Branch, Loop, Return, Exit}
-use Rattle.il_core.specs.Limits.{IsInstr, IsBlock, IsWithinLimits}
-use Rattle.il_core.specs.Ranges.{AreWords, numbers_of, end_numbers, IsBlockOfWords, IsRoutineOfWords}
-use Rattle.il_core.specs.Routine.{RoutineParts}
-use Rattle.il_core.specs.Size.{size}
+use Rattle.il_core.specs.Limits.{IsInstr}
+use Rattle.il_core.specs.Ranges.{AreWords, numbers_of, end_numbers}
 use Rattle.compact_form.specs.declared.opcode.Opcode.{Opcode}
 use Rattle.compact_form.specs.declared.opcode.Opcode.TheVariants as code
 use Rattle.compact_form.specs.declared.opcode.EndCode.{EndCode}
 use Rattle.compact_form.specs.declared.opcode.EndCode.TheVariants as end_code
-use Rattle.compact_form.specs.Numbers.{forms, spelled, spelled_all}
-use Rattle.compact_form.specs.Compact.{place_of, number_of, opcode, operands, instr_form, end_opcode, end_operands, end_form, counted, block_form, flag, compact, IsRoutine}
+use Rattle.compact_form.specs.Numbers.{spelled, spelled_all}
+use Rattle.compact_form.specs.Compact.{place_of, number_of, opcode, operands, instr_form, end_opcode, end_operands, end_form, counted, block_form}
 use Rattle.compact_form.specs.Reading.{Reply, goes, read_list, list_up_to, read_number, read_pair, read_triple, byte_of, end_byte_of, first_of_number, operators, operator_at, plain_codes, bin_code, opcode_at, end_codes, end_code_at, narrow_types, narrow_at, with_some, kept, is_pid, read_args, read_counted, read_call, read_operands, read_instr, read_end_operands, read_end, max_size, read_block}
 use Rattle.compact_form.specs.Lists.{same_reply, goes_back, kept_back, Reads, reads_number, list_complete, list_sound, reads_counted}
 

@@ -1,5 +1,5 @@
 -- The laws of a body that lies in a pool, for routines.
-use Rattle.std.specs.Prelude.{◌≡◌, ℕ, ◌^◌, ◌≤◌, length}
+use Rattle.std.specs.Prelude.{◌≡◌, ◌^◌, ◌≤◌, length}
 use Rattle.il_core.specs.Routine.{RoutineParts}
 use Rattle.il_core.specs.Size.{charge}
 use Rattle.compact_form.specs.Compact.{compact, IsRoutine}

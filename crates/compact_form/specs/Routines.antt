@@ -1,20 +1,20 @@
 -- A whole routine is read from its compact form, and from nothing else.
-use Rattle.std.proofs.Common.{◌≡◌, ℕ, zero, suc, ◌+◌, ◌<◌, ◌≤◌, ◌^◌, Bool, true, false, List, [], ◌∷◌, ◌++◌, length, Option, Some, None, refl, sym, ◌∙◌, ap, subst, arith, append-nil, append_assoc}
-use Rattle.std.specs.Prelude.{◌==◌, ◌&&◌, nat_lt, nat_le, sum, if◌then◌else◌}
+use Rattle.std.proofs.Common.{◌≡◌, ℕ, ◌+◌, ◌<◌, ◌≤◌, ◌^◌, Bool, true, false, List, [], ◌∷◌, ◌++◌, length, Some, None, refl, sym, ◌∙◌, ap, subst, arith, append-nil, append_assoc}
+use Rattle.std.specs.Prelude.{◌==◌, ◌&&◌, nat_le, sum, if◌then◌else◌}
 use Rattle.std.specs.List.{AllByRecursion}
 use Rattle.std.proofs.lemmas.Bool.{lt-ltb, ltb-true, le-leb, leb-true, eqb-true}
 use Rattle.std.proofs.lemmas.List.Sums.{sum_by-cons}
 use Rattle.il_core.specs.declared.instr.Block.{Block}
 use Rattle.il_core.specs.declared.instr.Instr.{Instr}
 use Rattle.il_core.specs.Limits.{IsInstr, IsBlock, IsWithinLimits}
-use Rattle.il_core.specs.Ranges.{AreWords, numbers_of, IsBlockOfWords, IsRoutineOfWords}
+use Rattle.il_core.specs.Ranges.{AreWords, numbers_of, IsBlockOfWords}
 use Rattle.il_core.specs.Routine.{RoutineParts}
 use Rattle.il_core.specs.Size.{block_size, blocks_size, size}
-use Rattle.compact_form.specs.Numbers.{forms, spelled, spelled_all}
-use Rattle.compact_form.specs.Compact.{instr_form, counted, block_form, flag, head_numbers, compact, IsRoutine}
-use Rattle.compact_form.specs.Reading.{Reply, goes, read_number, read_pair, read_triple, read_counted, with_some, kept, is_pid, max_size, read_block, flag_at, is_within, read_lists, read_routine, whole}
+use Rattle.compact_form.specs.Numbers.{spelled, spelled_all}
+use Rattle.compact_form.specs.Compact.{counted, block_form, flag, compact, IsRoutine}
+use Rattle.compact_form.specs.Reading.{Reply, goes, read_number, read_pair, read_triple, read_counted, with_some, kept, is_pid, max_size, read_block, flag_at, is_within, read_lists, read_routine}
 use Rattle.compact_form.specs.Lists.{same_reply, goes_back, kept_back, Reads, reads_number, reads_counted}
-use Rattle.compact_form.specs.Forms.{two_form, three_form, reads_pair, reads_triple, with_back, Fits, EndFits, BlockFits, reads_block}
+use Rattle.compact_form.specs.Forms.{two_form, three_form, reads_pair, reads_triple, with_back, Fits, BlockFits, reads_block}
 
 -- ---- from the limits of a routine to those of its parts
 

@@ -1,4 +1,4 @@
-use Rattle.std.proofs.Common.{◌≡◌, ◌+◌, ◌∷◌, ◌++◌, ◌∙◌, ap, arith, length, length-append, flat_map, take}
+use Rattle.std.proofs.Common.{◌∷◌, ◌++◌, arith, length-append, flat_map, take}
 use Rattle.compact_form.specs.Numbers.{spelled}
 use Rattle.compact_form.proofs.Written.{row_form, block_measured}
 use Rattle.compact_form.proofs.lengths.block_len.Goals as goal

@@ -1,5 +1,4 @@
-use Rattle.std.proofs.Common.{◌≡◌, ◌+◌, ◌*◌, ◌≤◌, length, take, drop, flat_map}
-use Rattle.il_core.specs.Size.{blocks_size}
+use Rattle.std.proofs.Common.{◌≡◌, ◌+◌, ◌*◌, ◌≤◌, length, drop, flat_map}
 use Rattle.compact_form.specs.Compact.{instr_form}
 use Rattle.compact_form.proofs.lengths.instrs_len.Given as goal
 

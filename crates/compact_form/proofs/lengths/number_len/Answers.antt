@@ -1,4 +1,4 @@
-use Rattle.std.proofs.Common.{◌∙◌, arith}
+use Rattle.std.proofs.Common.{arith}
 use Rattle.compact_form.specs.Numbers.{spelled}
 use Rattle.compact_form.specs.Spellings.{is_spelled, spelled_short}
 use Rattle.compact_form.proofs.lengths.number_len.Goals as goal

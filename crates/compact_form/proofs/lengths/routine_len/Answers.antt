@@ -1,4 +1,4 @@
-use Rattle.std.proofs.Common.{◌≤◌, ◌∙◌, ap, sym, subst, arith, length}
+use Rattle.std.proofs.Common.{◌∙◌, ap, arith, length}
 use Rattle.compact_form.specs.Routines.{few_blocks}
 use Rattle.compact_form.proofs.Written.{routine_measured}
 use Rattle.compact_form.proofs.lengths.routine_len.Goals as goal

@@ -1,4 +1,3 @@
-use Rattle.std.proofs.Common.{◌++◌, ◌∙◌, ap}
 use Rattle.std.proofs.lemmas.Result.{on_ok_weaker}
 use Rattle.compact_form.proofs.Written.{row_form, block_written}
 use Rattle.compact_form.proofs.writing.put_block.Goals as goal

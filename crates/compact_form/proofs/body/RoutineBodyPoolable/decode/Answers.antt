@@ -1,4 +1,4 @@
-use Rattle.std.proofs.Common.{◌≡◌, true, ap, sym, ◌∙◌, eq-eqb, length, Err}
+use Rattle.std.proofs.Common.{ap, sym, ◌∙◌, eq-eqb, Err}
 use Rattle.std.proofs.lemmas.Bool.{eqb-true, true≢false}
 use Rattle.compact_form.specs.Routines.{whole_sound, more_behind, unreadable}
 use Rattle.compact_form.proofs.body.RoutineBodyPoolable.decode.Goals as goal

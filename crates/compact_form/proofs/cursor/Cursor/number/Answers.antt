@@ -1,4 +1,4 @@
-use Rattle.std.proofs.Common.{refl, arith}
+use Rattle.std.proofs.Common.{refl}
 use Rattle.std.proofs.lemmas.List.{take_rest}
 use Rattle.compact_form.specs.Spellings.{taken, not_taken}
 use Rattle.compact_form.proofs.cursor.Cursor.number.Goals as goal
