@@ -142,6 +142,22 @@ impl ProgramSyms {
         Some(name)
     }
 
+    /// The PID of the name with these bytes, and what is known of it, without a `Name` and so without
+    /// memory; `None` exactly where no name with these bytes was mentioned. It takes one pass over the
+    /// names; [`ProgramSyms::pid`] is for many look-ups.
+    pub fn find(&self, bytes: &[u8]) -> Option<(u32, &Symbol)>
+        ensures pid { option_map (λ found. found.0) result ≡ pid_of self.now bytes.now }
+        ensures symbol { option_map (λ found. found.1.now) result ≡ symbol_of self.now bytes.now }
+    {
+        for at in 0..self.symbols.len() {
+            let (name, symbol) = self.symbols.get_index(at).unwrap();
+            if bytes == name.bytes() {
+                return Some((at as u32, symbol));
+            }
+        }
+        None
+    }
+
     /// Takes in a declaration of a name, and gives its PID: its own, or the next number where the name is
     /// new. `TypeClash` comes exactly where the entity is incompatible with what is known of the name;
     /// `TooMany` exactly where a limit would be passed (see [`SymFault`]); `Memory` only for a new name, and
