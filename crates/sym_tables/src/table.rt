@@ -1,5 +1,5 @@
 //! The program's names.
-ghost use Rattle.std.specs.Prelude.{◌≡◌, ◌≤◌, ◌<◌, ◌+◌, ◌^◌, ◌==◌, ◌++◌, ◌∷◌, [], length, min, nat_lt, ◌&&◌, ◌||◌, Some, None, IfOk, IfErr, OnOk, if◌then◌else◌, slice_get};
+ghost use Rattle.std.specs.Prelude.{◌≡◌, ◌≤◌, ◌<◌, ◌+◌, ◌^◌, ◌==◌, ◌++◌, ◌∷◌, [], length, min, nat_lt, ◌&&◌, ◌||◌, Some, None, IfSome, IfOk, IfErr, OnOk, if◌then◌else◌, slice_get};
 ghost use Rattle.std.specs.Option.{option_map, option_copied};
 ghost use Rattle.std.specs.List.{IsDistinct};
 ghost use Rattle.std.specs.Map.{keys_of, lookup};
@@ -148,6 +148,7 @@ impl ProgramSyms {
     pub fn find(&self, bytes: &[u8]) -> Option<(u32, &Symbol)>
         ensures pid { option_map (λ found. found.0) result ≡ pid_of self.now bytes.now }
         ensures symbol { option_map (λ found. found.1.now) result ≡ symbol_of self.now bytes.now }
+        ensures within { IfSome result (λ found. found.0 < length self.now) }
     {
         for at in 0..self.symbols.len() {
             let (name, symbol) = self.symbols.get_index(at).unwrap();
