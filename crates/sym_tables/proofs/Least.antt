@@ -1,6 +1,6 @@
 -- The bound below which nothing is used and not defined.
-use Rattle.std.proofs.Common.{◌≡◌, ℕ, zero, suc, cond, nat_lt, position, ◌+◌, ◌<◌, ◌≤◌, ◌==◌, Bool, true, false, if◌then◌else◌, min, List, [], ◌∷◌, ◌++◌, take, length, Some, None, refl, sym, ap, ◌∙◌, subst, arith}
-use Rattle.std.specs.List.{AllByRecursion, position_or_len, slice_get, slice_set}
+use Rattle.std.proofs.Common.{◌≡◌, ℕ, ◌+◌, ◌==◌, Bool, true, false, if◌then◌else◌, min, List, [], ◌∷◌, ◌++◌, take, length, Some, refl, sym, ap, ◌∙◌, subst, arith}
+use Rattle.std.specs.List.{AllByRecursion, slice_get, slice_set}
 use Rattle.std.proofs.lemmas.Bool.Decides.{nat_tests}
 use Rattle.sym_tables.specs.declared.symbol.Symbol.{Symbol}
 use Rattle.sym_tables.specs.Symbols.{is_open}
@@ -42,33 +42,3 @@ with_by false xs at least v o h = front_set IsClosed least xs at v h (λ l. o)
 -- a name was used
 pub least_used : (xs : List Symbol) (at least n : ℕ) (v : Symbol) → AllByRecursion IsClosed (take least xs) → n ≡ (if is_open v then min least at else least) → AllByRecursion IsClosed (take n (slice_set xs at v))
 least_used xs at least n v h e = subst (λ m. AllByRecursion IsClosed (take m (slice_set xs at v))) (sym e) (with_by (is_open v) xs at least v refl h)
-
--- the first place that is open
-len_found : (xs : List Symbol) (n : ℕ) (x : Symbol) → AllByRecursion IsClosed (take n xs) → slice_get xs n ≡ Some x → is_open x ≡ true → position_or_len is_open xs ≡ n
-len_found [] n x h k o = let c : None ≡ Some x = k in absurd cc
-len_found (y ∷ xs) zero x h k o = let e : y ≡ x = (let c : Some y ≡ Some x = k in cc) in let t : is_open y ≡ true = ap is_open e ∙ o in rw t refl
-len_found (y ∷ xs) (suc n) x h k o = let r = len_found xs n x h.1 k o in let f : is_open y ≡ false = h.0 in rw (f, r) (omega arith)
-
-len_none : (xs : List Symbol) (n : ℕ) → AllByRecursion IsClosed (take n xs) → length xs ≤ n → position_or_len is_open xs ≡ length xs
-len_none [] n h l = refl
-len_none (y ∷ xs) zero h l = absurd (omega arith)
-len_none (y ∷ xs) (suc n) h l = let r = len_none xs n h.1 (omega arith) in let f : is_open y ≡ false = h.0 in rw (f, r) (omega arith)
-
-within_get : (xs : List Symbol) (n : ℕ) (x : Symbol) → slice_get xs n ≡ Some x → n < length xs
-within_get [] n x k = let c : None ≡ Some x = k in absurd cc
-within_get (y ∷ xs) zero x k = omega arith
-within_get (y ∷ xs) (suc n) x k = let r = within_get xs n x k in omega arith
-
-below : (n m : ℕ) → n < m → nat_lt n m ≡ true
-below n m h = grind (arith, nat_tests)
-
-not_below : (n : ℕ) → nat_lt n n ≡ false
-not_below n = grind (arith, nat_tests)
-
-pub first_found : (xs : List Symbol) (n : ℕ) (x : Symbol) → AllByRecursion IsClosed (take n xs) → slice_get xs n ≡ Some x → is_open x ≡ true → position is_open xs ≡ Some n
-first_found xs n x h k o = let r = len_found xs n x h k o in let l = below n (length xs) (within_get xs n x k) in
-    ap (λ i. cond (nat_lt i (length xs)) (Some i) None) r ∙ ap (λ b. cond b (Some n) None) l
-
-pub none_found : (xs : List Symbol) (n : ℕ) → AllByRecursion IsClosed (take n xs) → length xs ≤ n → position is_open xs ≡ None
-none_found xs n h l = let r = len_none xs n h l in
-    ap (λ i. cond (nat_lt i (length xs)) (Some i) None) r ∙ ap (λ b. cond b (Some (length xs)) None) (not_below (length xs))

@@ -1,6 +1,8 @@
 pub mod Agreement
 pub mod Changes
 pub mod Entries
+pub mod Finds
+pub mod Firsts
 pub mod Least
 pub mod Limits
 pub mod Listings

@@ -1,5 +1,5 @@
 //! The program's names.
-ghost use Rattle.std.specs.Prelude.{◌≡◌, ◌≤◌, ◌<◌, ◌+◌, ◌^◌, ◌==◌, ◌++◌, ◌∷◌, [], length, min, nat_lt, ◌&&◌, ◌||◌, Some, None, IfOk, IfErr, OnOk, if◌then◌else◌, slice_get};
+ghost use Rattle.std.specs.Prelude.{◌≡◌, ◌≤◌, ◌<◌, ◌+◌, ◌^◌, ◌==◌, ◌++◌, ◌∷◌, [], length, min, nat_lt, ◌&&◌, ◌||◌, Some, None, IfSome, IfOk, IfErr, OnOk, if◌then◌else◌, slice_get};
 ghost use Rattle.std.specs.Option.{option_map, option_copied};
 ghost use Rattle.std.specs.List.{IsDistinct};
 ghost use Rattle.std.specs.Map.{keys_of, lookup};
@@ -140,6 +140,23 @@ impl ProgramSyms {
     {
         let (name, _) = self.symbols.get_index(pid as usize)?;
         Some(name)
+    }
+
+    /// The PID of the name with these bytes, and what is known of it, without a `Name` and so without
+    /// memory; `None` exactly where no name with these bytes was mentioned. It takes one pass over the
+    /// names; [`ProgramSyms::pid`] is for many look-ups.
+    pub fn find(&self, bytes: &[u8]) -> Option<(u32, &Symbol)>
+        ensures pid { option_map (λ found. found.0) result ≡ pid_of self.now bytes.now }
+        ensures symbol { option_map (λ found. found.1.now) result ≡ symbol_of self.now bytes.now }
+        ensures within { IfSome result (λ found. found.0 < length self.now) }
+    {
+        for at in 0..self.symbols.len() {
+            let (name, symbol) = self.symbols.get_index(at).unwrap();
+            if bytes == name.bytes() {
+                return Some((at as u32, symbol));
+            }
+        }
+        None
     }
 
     /// Takes in a declaration of a name, and gives its PID: its own, or the next number where the name is

@@ -1,0 +1,10 @@
+//! Linking: each name that is used is defined, and the program begins at `int main(void)`.
+#![tactic(auto)]
+
+mod fault;
+mod link;
+#[cfg(test)]
+mod tests;
+
+pub use fault::LinkFault;
+pub use link::link_check;
