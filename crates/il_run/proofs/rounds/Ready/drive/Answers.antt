@@ -1,0 +1,38 @@
+use Rattle.std.proofs.Common.{le_trans, rules}
+use Rattle.il_run.proofs.Running.{if_told, told_map, nothing_ahead, starts_holding, round_holds, round_ends, round_stops}
+use Rattle.il_run.proofs.rounds.Ready.drive.Goals as goal
+
+pub rounds-init : goal.rounds-init
+rounds-init g c = record {
+  tabled = c.requires.ready.tabled;
+  sound = c.requires.ready.starts.sound;
+  fits = c.requires.ready.fits;
+  at_end = search rules;
+  told = if_told _ _ (λ bytes e. starts_holding _ _ _ _ _ _ _ bytes c.requires.ready.starts (nothing_ahead _ _ bytes c.requires.ready.none e) c.requires.ready.empty);
+  input_later = search rules;
+  output_later = search rules;
+}
+
+pub rounds-preserved : goal.rounds-preserved
+rounds-preserved g c =
+    let moved = rw c.in-None.is at c.in-Ok.ensures.moved in
+    record {
+      tabled = c.rounds.invariant.tabled;
+      sound = moved.sound;
+      fits = c.round-ended.ensures.fits;
+      at_end = c.round-ended.ensures.ended;
+      told = told_map _ _ _ c.rounds.invariant.told (λ bytes h. round_holds _ _ _ _ _ _ _ _ _ _ _ _ bytes h moved c.round-ended.ensures.front);
+      input_later = le_trans c.rounds.invariant.input_later c.round-ended.ensures.input_later;
+      output_later = le_trans c.rounds.invariant.output_later c.round-ended.ensures.output_later;
+    }
+
+pub rounds-smaller : goal.rounds-smaller
+rounds-smaller g c = let moved = rw c.in-None.is at c.in-Ok.ensures.moved in moved.less
+
+pub returns-in-Some-clause-ends : goal.returns-in-Some-clause-ends
+returns-in-Some-clause-ends g c =
+    let last = rw c.in-Some.is at c.in-Ok.ensures.moved in
+    told_map _ _ _ c.rounds.invariant.told (λ bytes h. round_ends _ _ _ _ _ _ _ _ _ _ bytes h last)
+
+pub returns-in-Err-clause-stops : goal.returns-in-Err-clause-stops
+returns-in-Err-clause-stops g c = told_map _ _ _ c.rounds.invariant.told (λ bytes h. round_stops _ _ _ _ _ _ _ _ _ bytes h c.round-ended.ensures.front)

@@ -1,0 +1,8 @@
+use Rattle.il_run.proofs.OneRound.{next_round, get_round}
+use Rattle.il_run.proofs.rounds.round.Goals as goal
+
+pub returns-in-Next-clause-moved : goal.returns-in-Next-clause-moved
+returns-in-Next-clause-moved g c = next_round _ _ _ _ _ _ (rw c.in-Next.is at c.in_ok-advance.ensures)
+
+pub returns-in-Ok-clause-moved : goal.returns-in-Ok-clause-moved
+returns-in-Ok-clause-moved g c = get_round _ _ c.requires.tabled _ c.advance.new.self c.set.new.self _ _ _ c.in-Get.d c.word_of.result c.in-Ok.byte (rw c.in-Get.is at c.in_ok-advance.ensures) c.set.ensures c.word_of.ensures c.in-Ok.ensures.gives
