@@ -1,4 +1,5 @@
 pub mod Arms
+pub mod Asking
 pub mod Blocks
 pub mod Bound
 pub mod Calls

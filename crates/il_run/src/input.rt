@@ -1,8 +1,9 @@
 //! The input, some bytes at a time.
-ghost use Rattle.std.specs.Prelude.{◌≡◌, ◌<◌, ◌≤◌, ◌∷◌, [], IfOk, MatchBool, true, false};
+ghost use Rattle.std.specs.Prelude.{◌≡◌, ◌<◌, ◌≤◌, ◌∷◌, [], IfOk, List, MatchBool, MatchResult, Option, true, false};
 ghost use Rattle.std.specs.Io.KnownBytes.{IsAtEnd, Keeps, prepend_known};
 ghost use Rattle.outside.specs.Faults.{HasCause};
-ghost use Rattle.il_run.specs.Streams.{GivesNext, IsAhead, ahead};
+ghost use Rattle.il_run.specs.Streams.{AsksInTurn, AsksSo, GivesNext, IsAhead, ahead};
+ghost use Rattle.outside.specs.declared.source.Ask.{Ask};
 
 use outside::{Failed, Source};
 use std::alloc::{AllocError, Global};
@@ -43,6 +44,7 @@ impl Ahead {
         ensures fits { IsAhead self.new }
         ensures ended { self.new.ended ≡ true → IsAtEnd (I.left input.new) }
         ensures gives { GivesNext (prepend_known (ahead self.old) (I.left input.old)) (prepend_known (ahead self.new) (I.left input.new)) result }
+        ensures asks { (start : Option (List Ask)) → AsksSo start (I.asks input.old) self.old.ended → MatchResult result (λ _. AsksSo start (I.asks input.new) self.new.ended) (λ _. AsksInTurn start (I.asks input.new)) }
         ensures cause { HasCause (I.faults input.old) (I.faults input.new) result }
     {
         if self.next < self.end {
@@ -78,14 +80,13 @@ impl Ahead {
         ensures more { IfOk result (λ more. MatchBool more (self.new.next < self.new.end) (self.new.next ≡ self.new.end)) }
         ensures end { IfOk result (λ more. more ≡ false → IsAtEnd (I.left input.new)) }
         ensures known { Keeps (prepend_known (ahead self.old) (I.left input.old)) (prepend_known (ahead self.new) (I.left input.new)) }
+        ensures asks { (start : Option (List Ask)) → AsksSo start (I.asks input.old) false → MatchResult result (λ _. AsksSo start (I.asks input.new) self.new.ended) (λ _. AsksInTurn start (I.asks input.new)) }
         ensures cause { HasCause (I.faults input.old) (I.faults input.new) result }
     {
         let n = input.read(self.block.as_mut_slice())?;
         self.next = 0;
         self.end = n;
-        if n == 0 {
-            self.ended = true;
-        }
+        self.ended = n == 0;
         Ok(0 < n)
     }
 }

@@ -1,5 +1,6 @@
 use Rattle.std.proofs.Common.{le_trans, rules}
 use Rattle.il_run.proofs.Running.{if_told, told_map, nothing_ahead, starts_holding, round_holds, round_ends, round_stops}
+use Rattle.il_run.proofs.Asking.{asks_first, asks_turn}
 use Rattle.il_run.proofs.rounds.Ready.drive.Goals as goal
 
 pub rounds-init : goal.rounds-init
@@ -9,6 +10,7 @@ rounds-init g c = record {
   fits = c.requires.ready.fits;
   at_end = search rules;
   told = if_told _ _ (λ bytes e. starts_holding _ _ _ _ _ _ _ bytes c.requires.ready.starts (nothing_ahead _ _ bytes c.requires.ready.none e) c.requires.ready.empty);
+  asks = asks_first _ _;
   input_later = search rules;
   output_later = search rules;
 }
@@ -22,6 +24,7 @@ rounds-preserved g c =
       fits = c.round-ended.ensures.fits;
       at_end = c.round-ended.ensures.ended;
       told = told_map _ _ _ c.rounds.invariant.told (λ bytes h. round_holds _ _ _ _ _ _ _ _ _ _ _ _ bytes h moved c.round-ended.ensures.front);
+      asks = rw c.in-Ok.is at (c.round-ended.ensures.asks _ c.rounds.invariant.asks);
       input_later = le_trans c.rounds.invariant.input_later c.round-ended.ensures.input_later;
       output_later = le_trans c.rounds.invariant.output_later c.round-ended.ensures.output_later;
     }
@@ -36,3 +39,9 @@ returns-in-Some-clause-ends g c =
 
 pub returns-in-Err-clause-stops : goal.returns-in-Err-clause-stops
 returns-in-Err-clause-stops g c = told_map _ _ _ c.rounds.invariant.told (λ bytes h. round_stops _ _ _ _ _ _ _ _ _ bytes h c.round-ended.ensures.front)
+
+pub returns-in-Some-clause-asks : goal.returns-in-Some-clause-asks
+returns-in-Some-clause-asks g c = asks_turn _ _ _ (rw c.in-Ok.is at (c.round-ended.ensures.asks _ c.rounds.invariant.asks))
+
+pub returns-in-Err-clause-asks : goal.returns-in-Err-clause-asks
+returns-in-Err-clause-asks g c = rw c.in-Err.is at (c.round-ended.ensures.asks _ c.rounds.invariant.asks)
