@@ -4,6 +4,7 @@ pub mod Blocks
 pub mod Bound
 pub mod Calls
 pub mod Cover
+pub mod Done
 pub mod Entering
 pub mod Growing
 pub mod Main

@@ -15,6 +15,8 @@ use Rattle.il_run.specs.Start.{Starts}
 use Rattle.il_run.specs.Run.{EndsAs, IfTold, Round, LastRound, StopsWithin}
 use Rattle.il_run.specs.Streams.{GainsFront}
 use Rattle.il_run.proofs.Bound.{Grows}
+use Rattle.il_core.specs.Valid.{IsProgram}
+use Rattle.il_run.proofs.Done.{has_run}
 use Rattle.il_run.proofs.Growing.{output_grows}
 
 -- the sink took more
@@ -101,15 +103,17 @@ front_stays (Some xs) (Some ys) (Some zs) waiting output g whole k a b c h =
 
 -- after a fault the sink has a front of the output
 pub round_stops : (p : IlProgram) (t : Tables) (turns : ℕ) (m : Machine) (known taken now after : Option (List ℕ)) (waiting bytes : List ℕ)
-    → Holding p t turns m known taken now waiting bytes → GainsFront now after waiting → StopsWithin p turns taken after bytes
-round_stops p t turns m known taken now after waiting bytes h g = record {
-  by = λ r run.
-      front_stays taken now after waiting h.output h.grown.more r.output g.count h.grown.gained h.is_out g.gained
-      (output_grows p t m h.rest h.output r (sym (ap run_of h.same) ∙ run));
-}
+    → IsProgram p → Holding p t turns m known taken now waiting bytes → GainsFront now after waiting → StopsWithin p turns taken after bytes
+round_stops p t turns m known taken now after waiting bytes valid h g =
+    let r = has_run p valid bytes turns in
+    record {
+      run = r.run;
+      is_run = r.is;
+      gained = front_stays taken now after waiting h.output h.grown.more r.run.output g.count h.grown.gained h.is_out g.gained (output_grows p t m h.rest h.output r.run (sym (ap run_of h.same) ∙ r.is));
+    }
 
-pub stops_first : (p : IlProgram) (turns : ℕ) (taken : Option (List ℕ)) (bytes : List ℕ) → StopsWithin p turns taken taken bytes
-stops_first p turns taken bytes = record { by = λ r run. gains_nothing taken r.output }
+pub stops_first : (p : IlProgram) (turns : ℕ) (taken : Option (List ℕ)) (bytes : List ℕ) → IsProgram p → StopsWithin p turns taken taken bytes
+stops_first p turns taken bytes valid = let r = has_run p valid bytes turns in record { run = r.run; is_run = r.is; gained = gains_nothing taken r.run.output }
 
 pub if_told : (o : Option (List ℕ)) (P : List ℕ → Type 0) → ((bytes : List ℕ) → o ≡ Some bytes → P bytes) → IfTold o P
 if_told None P h = tt

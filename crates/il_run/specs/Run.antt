@@ -23,9 +23,11 @@ pub record EndsAs (p : IlProgram) (turns : ℕ) (e : Ending) (old new : Option (
   pub run : il_run p bytes turns ≡ Some (record { output = output; ending = ending_of e })
   pub gained : Appends old new output
 
--- the sink gained a front of the output that the program has on these bytes and with these turns
+-- the program has a run on these bytes and with these turns, and the sink gained a front of its output
 pub record StopsWithin (p : IlProgram) (turns : ℕ) (old new : Option (List ℕ)) (bytes : List ℕ) : Type 0 where
-  pub by : (r : Run) → il_run p bytes turns ≡ Some r → GainsFront old new r.output
+  pub run : Run
+  pub is_run : il_run p bytes turns ≡ Some run
+  pub gained : GainsFront old new run.output
 
 -- the fault of the source or the sink comes only where its count rose
 abbrev pub HasReason : RunFault → ℕ → ℕ → ℕ → ℕ → Type 0

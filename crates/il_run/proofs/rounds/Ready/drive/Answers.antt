@@ -38,7 +38,7 @@ returns-in-Some-clause-ends g c =
     told_map _ _ _ c.rounds.invariant.told (λ bytes h. round_ends _ _ _ _ _ _ _ _ _ _ bytes h last)
 
 pub returns-in-Err-clause-stops : goal.returns-in-Err-clause-stops
-returns-in-Err-clause-stops g c = told_map _ _ _ c.rounds.invariant.told (λ bytes h. round_stops _ _ _ _ _ _ _ _ _ bytes h c.round-ended.ensures.front)
+returns-in-Err-clause-stops g c = told_map _ _ _ c.rounds.invariant.told (λ bytes h. round_stops _ _ _ _ _ _ _ _ _ bytes c.requires.valid h c.round-ended.ensures.front)
 
 pub returns-in-Some-clause-asks : goal.returns-in-Some-clause-asks
 returns-in-Some-clause-asks g c = asks_turn _ _ _ (rw c.in-Ok.is at (c.round-ended.ensures.asks _ c.rounds.invariant.asks))
