@@ -6,7 +6,7 @@ use Rattle.std.proofs.lemmas.List.{append-nil}
 use Rattle.std.proofs.lemmas.Bool.{cases_eq, false≢true}
 use Rattle.outside.specs.Asks.{NotesAsk, next_ask}
 use Rattle.outside.specs.declared.source.Ask.{Ask}
-use Rattle.il_run.specs.Streams.{AllButLastGave, AsksInTurn, AsksMore, AsksSo, Asking, GaveSome}
+use Rattle.il_run.specs.Streams.{AllButLastGave, AsksInTurn, AsksSo, GaveSome}
 
 last_free : (xs : List Ask) (a : Ask) → AllByRecursion GaveSome xs → AllButLastGave (xs ++ a ∷ [])
 last_free [] a h = tt

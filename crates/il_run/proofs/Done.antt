@@ -1,6 +1,6 @@
 -- A valid program never stops without an ending.
-use Rattle.std.proofs.Common.{◌≡◌, ℕ, zero, suc, ◌+◌, ◌<◌, ◌≤◌, List, [], ◌∷◌, length, Bool, true, false, refl, ap, subst, sym, ◌∙◌, arith, inl, inr, eq-eqb, ne_eqb}
-use Rattle.std.specs.Prelude.{nat_eq, nat_lt, if◌then◌else◌, Option, Some, None, Result, Ok, Err, ⊤}
+use Rattle.std.proofs.Common.{◌≡◌, ℕ, zero, suc, ◌+◌, ◌<◌, ◌≤◌, List, [], ◌∷◌, length, Bool, true, false, refl, subst, sym, arith, inl, inr, eq-eqb, ne_eqb}
+use Rattle.std.specs.Prelude.{nat_lt, if◌then◌else◌, Option, Some, Result, Ok, Err, ⊤}
 use Rattle.std.specs.List.{AllByRecursion}
 use Rattle.std.proofs.lemmas.Bool.{cases_eq}
 use Rattle.hlo_num.specs.declared.word.Trap.{Trap}
@@ -32,7 +32,6 @@ done_more t u (Ends e output log) le d = tt
 done_more t u Stuck le d = absurd d
 
 module _ {S : Type 0} where
-
   pub record Goes (t : ℕ) (a : Next S) : Type 0 where
     pub by : (f : Frame) (w : World S) → w.turns ≤ t → Done w.turns (a f w)
 
@@ -58,7 +57,6 @@ module _ {S : Type 0} where
   choose_done t (suc n) a b x y = x
 
 module _ {S : Type 0} (note : Recorder S) (p : IlProgram) (valid : IsProgram p) where
-
   -- a PID that has a valid routine
   pub record HasRoutine (q : ℕ) : Type 0 where
     pub routine : RoutineParts
@@ -107,9 +105,12 @@ module _ {S : Type 0} (note : Recorder S) (p : IlProgram) (valid : IsProgram p) 
       let first : Next S = λ f w. steps c n k x.instrs (λ f1 w1. finish back later x.end f1 w1) f w in
       let goes : (v : ℕ) → b < v → v < length r.blocks → Goes t (later v) = λ v less lv. record { by = λ f w le1. (enter_done t c back n r xs (suc b) (sites_of x.instrs + k) v rest (omega arith) (omega arith) lv hc hb).by f w le1 } in
       elim (cases_eq u b) [
-        inl e ↦ record { by = λ f w le1. subst (λ (c1 : Bool). Done w.turns (if c1 then first f w else later u f w)) (sym (eq-eqb u b e))
-            ((steps_done t c n k r.regs (length r.arrays) x.instrs (λ f1 w1. finish back later x.end f1 w1) ok.0 hc (finish_done t r.regs r.value (length r.blocks) b back later x.end (omega arith) ok.1 hb goes)).by f w le1) }
-      | inr ne ↦ record { by = λ f w le1. subst (λ (c1 : Bool). Done w.turns (if c1 then first f w else later u f w)) (sym (ne_eqb u b ne)) ((goes u (omega arith) lt).by f w le1) } ]
+        | inl e ↦ record {
+          by = λ f w le1. subst (λ (c1 : Bool). Done w.turns (if c1 then first f w else later u f w)) (sym (eq-eqb u b e))
+              ((steps_done t c n k r.regs (length r.arrays) x.instrs (λ f1 w1. finish back later x.end f1 w1) ok.0 hc (finish_done t r.regs r.value (length r.blocks) b back later x.end (omega arith) ok.1 hb goes)).by f w le1);
+        }
+        | inr ne ↦ record { by = λ f w le1. subst (λ (c1 : Bool). Done w.turns (if c1 then first f w else later u f w)) (sym (ne_eqb u b ne)) ((goes u (omega arith) lt).by f w le1) }
+      ]
 
   begin_done : (t q : ℕ) (run : RoutineParts → ℕ → Next S) (args : List ℕ) (w : World S) → HasRoutine q → ((r : RoutineParts) → IsValid p.shapes r → Done t (run r 0 (frame_of args) w)) → Done t (begin run (routine_at p.routines q) args w)
   begin_done t q run args w h go = subst (λ (o : Option RoutineParts). Done t (begin run o args w)) (sym h.is) (go h.routine h.is_valid)
@@ -118,12 +119,14 @@ module _ {S : Type 0} (note : Recorder S) (p : IlProgram) (valid : IsProgram p) 
   exec_done zero r u f w ln ok lt = absurd (omega arith)
   exec_done (suc n) r u f w ln ok lt =
       (enter_done w.turns
-          (λ k q args w1. turn (ended OutOfTurns) (λ w2. begin (exec note p n) (routine_at p.routines q) args (noted note r.pid k q w2)) w1)
-          (λ v f1 w1. turn (ended OutOfTurns) (λ w2. exec note p n r v f1 w2) w1)
-          (lengths p r) r r.blocks 0 0 u ok.blocks (omega arith) (omega arith) lt
-          (record { by = λ k q args w1 le h. turn_done w.turns w1.turns w1 (λ w2. begin (exec note p n) (routine_at p.routines q) args (noted note r.pid k q w2)) le (λ w2 lt2.
-              begin_done w2.turns q (exec note p n) args (noted note r.pid k q w2) h (λ r1 ok1. exec_done n r1 0 (frame_of args) (noted note r.pid k q w2) (omega arith) ok1 ok1.some_block)) })
-          (λ v lv. record { by = λ f1 w1 le. turn_done w.turns w1.turns w1 (λ w2. exec note p n r v f1 w2) le (λ w2 lt2. exec_done n r v f1 w2 (omega arith) ok lv) })).by f w (omega arith)
+      (λ k q args w1. turn (ended OutOfTurns) (λ w2. begin (exec note p n) (routine_at p.routines q) args (noted note r.pid k q w2)) w1)
+      (λ v f1 w1. turn (ended OutOfTurns) (λ w2. exec note p n r v f1 w2) w1)
+      (lengths p r) r r.blocks 0 0 u ok.blocks (omega arith) (omega arith) lt
+      (record {
+        by = λ k q args w1 le h. turn_done w.turns w1.turns w1 (λ w2. begin (exec note p n) (routine_at p.routines q) args (noted note r.pid k q w2)) le (λ w2 lt2.
+            begin_done w2.turns q (exec note p n) args (noted note r.pid k q w2) h (λ r1 ok1. exec_done n r1 0 (frame_of args) (noted note r.pid k q w2) (omega arith) ok1 ok1.some_block));
+      })
+      (λ v lv. record { by = λ f1 w1 le. turn_done w.turns w1.turns w1 (λ w2. exec note p n r v f1 w2) le (λ w2 lt2. exec_done n r v f1 w2 (omega arith) ok lv) })).by f w (omega arith)
 
 -- a run of a valid program is there
 pub record HasRun (p : IlProgram) (input : List ℕ) (turns : ℕ) : Type 0 where
@@ -140,5 +143,5 @@ has_run p valid input turns =
     let w : World (Unit {0}) = at_start tt p input turns in
     let c = callee_of p valid (main_pid p.shapes) 0 true (main_shape p valid) in
     let r = run_there turns (act p (main_pid p.shapes) [] w)
-        (begin_done no_log p valid turns (main_pid p.shapes) (exec no_log p (suc turns)) [] w (record { routine = c.routine; is = c.is; is_valid = c.is_valid }) (λ r1 ok1. exec_done no_log p valid (suc turns) r1 0 (frame_of []) w (omega arith) ok1 ok1.some_block)) in
+    (begin_done no_log p valid turns (main_pid p.shapes) (exec no_log p (suc turns)) [] w (record { routine = c.routine; is = c.is; is_valid = c.is_valid }) (λ r1 ok1. exec_done no_log p valid (suc turns) r1 0 (frame_of []) w (omega arith) ok1 ok1.some_block)) in
     record { run = r.0; is = r.1 }

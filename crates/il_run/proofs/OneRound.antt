@@ -1,7 +1,8 @@
 -- One step of a machine, with the bytes that it asks for and puts out.
-use Rattle.std.proofs.Common.{◌≡◌, ℕ, List, [], ◌∷◌, refl, ap, subst, sym, ◌∙◌}
-use Rattle.std.specs.Prelude.{Option, Some, None, MatchOption}
+use Rattle.std.proofs.Common.{◌≡◌, Bool, true, false, ℕ, List, [], ◌∷◌, refl, ap, subst, sym, ◌∙◌}
+use Rattle.std.specs.Prelude.{Option, Some, None, MatchOption, ⊤}
 use Rattle.std.specs.Io.KnownBytes.{Appends, Consumes, IsAtEnd, Keeps}
+use Rattle.std.proofs.lemmas.Bool.{false≢true}
 use Rattle.std.proofs.lemmas.List.{append-nil}
 use Rattle.il_core.specs.declared.program.IlProgram.{IlProgram}
 use Rattle.il_core.specs.World.{first_byte, other_bytes}
@@ -11,23 +12,29 @@ use Rattle.il_run.specs.declared.store.Store.{Store}
 use Rattle.il_run.specs.declared.tables.Tables.{Tables}
 use Rattle.il_run.specs.Machine.{routine_in, IsTabled, to_come, GoesOn, PutsOut, WantsByte}
 use Rattle.il_run.specs.Plain.{SetsReg}
-use Rattle.il_run.specs.Run.{Round}
+use Rattle.il_run.specs.Run.{Round, Uses}
 use Rattle.il_run.proofs.Arms.{sets_below}
 use Rattle.il_run.proofs.Calls.{moved_sound}
 use Rattle.il_run.proofs.Running.{Appends_nil}
 
-pub next_round : (p : IlProgram) (t : Tables) (old new : Machine) (known put : Option (List ℕ)) → GoesOn p t old new → Round p t old new known known put put
-next_round p t old new known put h = record {
+uses_none : (known : Option (List ℕ)) → Consumes known known []
+uses_none None = tt
+uses_none (Some xs) = refl
+
+pub next_round : (p : IlProgram) (t : Tables) (old new : Machine) (known put : Option (List ℕ)) (ended : Bool) → GoesOn p t old new → Round p t old new known known put put ended
+next_round p t old new known put ended h = record {
   sound = h.sound;
   less = h.less;
   goes = λ rest e. record { left = rest; out = []; is_left = e; is_out = Appends_nil put; same = λ output. h.same rest output ∙ ap (λ (o : List ℕ). to_come p t new rest o) (sym (append-nil output)) };
+  uses = λ e. record { bytes = []; out = []; consumed = uses_none known; alike = λ more output. h.same more output ∙ ap (λ (o : List ℕ). to_come p t new more o) (sym (append-nil output)) };
 }
 
-pub put_round : (p : IlProgram) (t : Tables) (old new : Machine) (known put put_now : Option (List ℕ)) (b : ℕ) → PutsOut p t old new b → Appends put put_now (b ∷ []) → Round p t old new known known put put_now
-put_round p t old new known put put_now b h a = record {
+pub put_round : (p : IlProgram) (t : Tables) (old new : Machine) (known put put_now : Option (List ℕ)) (ended : Bool) (b : ℕ) → PutsOut p t old new b → Appends put put_now (b ∷ []) → Round p t old new known known put put_now ended
+put_round p t old new known put put_now ended b h a = record {
   sound = h.sound;
   less = h.less;
   goes = λ rest e. record { left = rest; out = b ∷ []; is_left = e; is_out = a; same = λ output. h.same rest output };
+  uses = λ e. record { bytes = []; out = b ∷ []; consumed = uses_none known; alike = λ more output. h.same more output };
 }
 
 -- the byte that was given is the first one left, or the end
@@ -48,10 +55,20 @@ gives rest None (Some b) v e h = absurd h
 gives rest (Some ys) None v e h = given_none rest ys v e h.0 h.2
 gives rest (Some ys) (Some b) v e h = given_some rest ys b v e h
 
-pub get_round : (p : IlProgram) (t : Tables) (tabled : IsTabled p t) (old new : Machine) (s : Store) (known known_now put : Option (List ℕ)) (d v : ℕ) (byte : Option ℕ) → WantsByte p t old new d → SetsReg new.store s d v
+get_uses : (p : IlProgram) (t : Tables) (old new : Machine) (s : Store) (known known_now : Option (List ℕ)) (ended : Bool) (d v : ℕ) (byte : Option ℕ) → MatchOption byte (ended ≡ true) (λ b. ⊤) → WantsByte p t old new d → SetsReg new.store s d v
+    → MatchOption byte (v ≡ 4294967295) (λ b. v ≡ b) → MatchOption byte (IsAtEnd known × IsAtEnd known_now × Keeps known known_now) (λ b. Consumes known known_now (b ∷ [])) → ended ≡ false → Uses p t old (record new { store = s }) known known_now
+get_uses p t old new s known known_now ended d v None at_end h set word given e = absurd (false≢true (sym e ∙ at_end))
+get_uses p t old new s known known_now ended d v (Some b) at_end h set word given e = record {
+  bytes = b ∷ [];
+  out = [];
+  consumed = given;
+  alike = λ more output. h.same (b ∷ more) output s (subst (λ (n : ℕ). SetsReg new.store s d n) word set) ∙ ap (λ (o : List ℕ). to_come p t (record new { store = s }) more o) (sym (append-nil output));
+}
+
+pub get_round : (p : IlProgram) (t : Tables) (tabled : IsTabled p t) (old new : Machine) (s : Store) (known known_now put : Option (List ℕ)) (ended : Bool) (d v : ℕ) (byte : Option ℕ) → MatchOption byte (ended ≡ true) (λ b. ⊤) → WantsByte p t old new d → SetsReg new.store s d v
     → MatchOption byte (v ≡ 4294967295) (λ b. v ≡ b) → MatchOption byte (IsAtEnd known × IsAtEnd known_now × Keeps known known_now) (λ b. Consumes known known_now (b ∷ []))
-    → Round p t old (record new { store = s }) known known_now put put
-get_round p t tabled old new s known known_now put d v byte h set word given = record {
+    → Round p t old (record new { store = s }) known known_now put put ended
+get_round p t tabled old new s known known_now put ended d v byte at_end h set word given = record {
   sound = moved_sound {S = Unit {0}} no_log p t tabled new h.sound s (sets_below new.store (routine_in p new.routine) t.objects.sizes.items h.sound.holds s d v set) new.block new.instr new.turns h.sound.place;
   less = h.less;
   goes = λ rest e.
@@ -63,4 +80,5 @@ get_round p t tabled old new s known known_now put d v byte h set word given = r
         is_out = Appends_nil put;
         same = λ output. h.same rest output s (subst (λ (n : ℕ). SetsReg new.store s d n) g.first set) ∙ ap (λ (o : List ℕ). to_come p t (record new { store = s }) (other_bytes rest) o) (sym (append-nil output));
       };
+  uses = get_uses p t old new s known known_now ended d v byte at_end h set word given;
 }

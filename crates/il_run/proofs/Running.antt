@@ -1,19 +1,22 @@
 -- A run holds what the meaning has, from round to round.
-use Rattle.std.proofs.Common.{◌≡◌, ℕ, suc, ◌+◌, List, [], ◌∷◌, ◌++◌, length, take, refl, ap, sym, ◌∙◌, arith, append_assoc}
-use Rattle.std.specs.Prelude.{Option, Some, None, min}
-use Rattle.std.specs.Io.KnownBytes.{Appends, append_known, prepend_known}
+use Rattle.std.proofs.Common.{◌≡◌, Bool, true, false, ℕ, suc, ◌+◌, List, [], ◌∷◌, ◌++◌, length, take, refl, ap, sym, ◌∙◌, arith, append_assoc}
+use Rattle.std.specs.Prelude.{Option, Some, None, min, Result, Err}
+use Rattle.std.specs.Io.KnownBytes.{Appends, Consumes, Keeps, append_known, prepend_known}
 use Rattle.std.proofs.KnownBytes.{Appends-trans}
 use Rattle.il_core.specs.declared.program.IlProgram.{IlProgram}
 use Rattle.il_core.specs.Program.{main_pid}
 use Rattle.il_core.specs.Meaning.{act, at_start, run_of}
 use Rattle.il_run.specs.declared.machine.Machine.{Machine}
 use Rattle.il_run.specs.declared.tables.Tables.{Tables}
-use Rattle.il_run.specs.Machine.{to_come}
-use Rattle.std.proofs.lemmas.List.{append-nil, append_cancel_left, take-append-le, take_min}
+use Rattle.il_run.specs.Machine.{to_come, IsTabled, IsSound}
+use Rattle.std.proofs.lemmas.List.{append-nil, append_cancel_left, take-append-le, take_min, drop_all, length-take}
 use Rattle.il_run.specs.declared.ending.Ending.{Ending}
 use Rattle.il_run.specs.Start.{Starts}
-use Rattle.il_run.specs.Run.{EndsAs, IfTold, Round, LastRound, StopsWithin}
-use Rattle.il_run.specs.Streams.{GainsFront}
+use Rattle.il_run.specs.Run.{EndsAs, IfTold, Round, LastRound, StopsWithin, AsksFor, FailedAsk, Uses}
+use Rattle.il_run.specs.Streams.{GainsFront, ahead}
+use Rattle.il_run.specs.declared.input.Ahead.{Ahead}
+use Rattle.std.proofs.lemmas.Bool.{false≢true}
+use Rattle.std.proofs.lemmas.Option.{none-some, same_Some}
 use Rattle.il_run.proofs.Bound.{Grows}
 use Rattle.il_core.specs.Valid.{IsProgram}
 use Rattle.il_run.proofs.Done.{has_run}
@@ -33,9 +36,9 @@ pub record Holding (p : IlProgram) (t : Tables) (turns : ℕ) (m : Machine) (kno
   pub same : act p (main_pid p.shapes) [] (at_start tt p bytes turns) ≡ to_come p t m rest output
   pub grown : Grown taken now
 
-pub round_holds : (p : IlProgram) (t : Tables) (turns : ℕ) (old new : Machine) (known known_now taken now after : Option (List ℕ)) (waiting waiting_now bytes : List ℕ)
-    → Holding p t turns old known taken now waiting bytes → Round p t old new known known_now (append_known now waiting) (append_known after waiting_now) → GainsFront now after waiting → Holding p t turns new known_now taken after waiting_now bytes
-round_holds p t turns old new known known_now taken now after waiting waiting_now bytes h r gains =
+pub round_holds : (p : IlProgram) (t : Tables) (turns : ℕ) (old new : Machine) (known known_now taken now after : Option (List ℕ)) (waiting waiting_now bytes : List ℕ) (ended : Bool)
+    → Holding p t turns old known taken now waiting bytes → Round p t old new known known_now (append_known now waiting) (append_known after waiting_now) ended → GainsFront now after waiting → Holding p t turns new known_now taken after waiting_now bytes
+round_holds p t turns old new known known_now taken now after waiting waiting_now bytes ended h r gains =
     let g = r.goes h.rest h.is_rest in
     record {
       rest = g.left;
@@ -122,3 +125,65 @@ if_told (Some bytes) P h = h bytes refl
 pub told_map : (o : Option (List ℕ)) (P Q : List ℕ → Type 0) → IfTold o P → ((bytes : List ℕ) → P bytes → Q bytes) → IfTold o Q
 told_map None P Q a h = tt
 told_map (Some bytes) P Q a h = h bytes a
+
+-- the bytes used so far, whatever follows them
+pub record Using (p : IlProgram) (t : Tables) (turns : ℕ) (m : Machine) (known : Option (List ℕ)) (bytes : List ℕ) : Type 0 where
+  pub used : List ℕ
+  pub output : List ℕ
+  pub rest : List ℕ
+  pub is_rest : known ≡ Some rest
+  pub split : bytes ≡ used ++ rest
+  pub alike : (more : List ℕ) → act p (main_pid p.shapes) [] (at_start tt p (used ++ more) turns) ≡ to_come p t m more output
+
+pub starts_using : (p : IlProgram) (t : Tables) (turns : ℕ) (m : Machine) (known : Option (List ℕ)) (bytes : List ℕ) → Starts p t turns m → known ≡ Some bytes → Using p t turns m known bytes
+starts_using p t turns m known bytes s e = record { used = []; output = []; rest = bytes; is_rest = e; split = refl; alike = λ more. sym (s.same more) }
+
+record Left (known_now : Option (List ℕ)) (bs rest : List ℕ) : Type 0 where
+  pub left : List ℕ
+  pub is_left : known_now ≡ Some left
+  pub split : rest ≡ bs ++ left
+
+left_of : (known known_now : Option (List ℕ)) (bs rest : List ℕ) → Consumes known known_now bs → known ≡ Some rest → Left known_now bs rest
+left_of None known_now bs rest c e = absurd (none-some rest e)
+left_of (Some xs) None bs rest c e = absurd c
+left_of (Some xs) (Some ys) bs rest c e = record { left = ys; is_left = refl; split = sym (same_Some xs rest e) ∙ c }
+
+pub round_uses : (p : IlProgram) (t : Tables) (turns : ℕ) (old new : Machine) (known known_now : Option (List ℕ)) (bytes : List ℕ) → Using p t turns old known bytes → Uses p t old new known known_now → Using p t turns new known_now bytes
+round_uses p t turns old new known known_now bytes h u =
+    let l = left_of known known_now u.bytes h.rest u.consumed h.is_rest in
+    record {
+      used = h.used ++ u.bytes;
+      output = h.output ++ u.out;
+      rest = l.left;
+      is_rest = l.is_left;
+      split = h.split ∙ ap (λ (xs : List ℕ). h.used ++ xs) l.split ∙ sym (append_assoc h.used u.bytes l.left);
+      alike = λ more. ap (λ (xs : List ℕ). act p (main_pid p.shapes) [] (at_start tt p xs turns)) (append_assoc h.used u.bytes more) ∙ h.alike (u.bytes ++ more) ∙ u.alike more h.output;
+    }
+
+kept_left : (xs left : Option (List ℕ)) (rest : List ℕ) → Keeps xs left → xs ≡ Some rest → left ≡ Some rest
+kept_left None left rest k e = absurd (none-some rest e)
+kept_left (Some xs) None rest k e = absurd k
+kept_left (Some xs) (Some ys) rest k e = ap Some k ∙ e
+
+none_ahead : (left : Option (List ℕ)) → prepend_known [] left ≡ left
+none_ahead None = refl
+none_ahead (Some xs) = refl
+
+empty_ahead : (a : Ahead) → a.next ≡ a.end → ahead a ≡ []
+empty_ahead a e = drop_all a.next (take a.end a.block.items) (omega (arith, length-take a.end a.block.items))
+
+pub round_wants : (p : IlProgram) (t : Tables) (turns : ℕ) (m : Machine) (old new : Ahead) (known left : Option (List ℕ)) (bytes : List ℕ) → IsTabled p t → IsSound p t m → Using p t turns m known bytes → FailedAsk p m old new known (prepend_known (ahead new) left) → AsksFor p turns left bytes
+round_wants p t turns m old new known left bytes tabled sound h f = record {
+  used = h.used;
+  rest = h.rest;
+  split = h.split;
+  is_left = sym (ap (λ (xs : List ℕ). prepend_known xs left) (empty_ahead new f.at.now) ∙ none_ahead left) ∙ kept_left known (prepend_known (ahead new) left) h.rest f.kept h.is_rest;
+  wants = record { tables = t; machine = m; tabled = tabled; sound = sound; register = f.register; output = h.output; next = f.next; alike = h.alike };
+}
+
+pub still_open : (a b : Bool) → (a ≡ true → b ≡ true) → b ≡ false → a ≡ false
+still_open true b h e = absurd (false≢true (sym e ∙ h refl))
+still_open false b h e = refl
+
+pub same_fault : {T U E : Type 0} (a b : E) → ◌≡◌ {A = Result T E} (Err a) (Err b) → ◌≡◌ {A = Result U E} (Err a) (Err b)
+same_fault a b e = let same : a ≡ b = cc in ap Err same

@@ -60,6 +60,7 @@ module _ (p : IlProgram) (t : Tables) (tabled : IsTabled p t) (old : Machine) (s
   get_moves d next lt = record {
     sound = moved_sound {S = Unit {0}} no_log p t tabled old sound old.store same_below old.block (old.instr + 1) old.turns (next_place (GetChar d) next);
     less = omega (arith, next_work (GetChar d) next);
+    at = next;
     reg = lt;
     same = λ input output s set. get_left no_log p t tabled old sound d s input output tt next lt set;
   }

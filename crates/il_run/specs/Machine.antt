@@ -2,6 +2,7 @@
 use Rattle.std.specs.Prelude.{◌≡◌, ℕ, suc, ◌+◌, ◌-◌, ◌*◌, ◌^◌, ◌<◌, ◌≤◌, ◌++◌, false, List, [], ◌∷◌, length, drop, sum, sum_by, slice_index, slice_index_or, Option, Some}
 use Rattle.il_core.specs.declared.instr.Block.{Block}
 use Rattle.il_core.specs.declared.instr.Instr.{Instr}
+use Rattle.il_core.specs.declared.instr.Instr.TheVariants.{GetChar}
 use Rattle.il_core.specs.declared.instr.End.TheVariants as ends
 use Rattle.il_core.specs.declared.program.IlProgram.{IlProgram}
 use Rattle.il_core.specs.Routine.{RoutineParts}
@@ -109,6 +110,12 @@ module _ {S : Type 0} (note : Recorder S) (p : IlProgram) where
 abbrev pub to_come : IlProgram → Tables → Machine → List ℕ → List ℕ → Outcome (Unit {0})
 to_come p t m input output = left no_log p t m input output tt
 
+-- the instruction that comes next
+pub record IsNext (p : IlProgram) (m : Machine) (i : Instr) : Type 0 where
+  pub within : m.instr < length (block_in (routine_in p m.routine) m.block).instrs
+  pub few : m.instr < 2 ^ 63
+  pub is : drop m.instr (block_in (routine_in p m.routine) m.block).instrs ≡ i ∷ drop (suc m.instr) (block_in (routine_in p m.routine) m.block).instrs
+
 -- one step further, nothing of the outside being met
 pub record GoesOn (p : IlProgram) (t : Tables) (old new : Machine) : Type 0 where
   pub sound : IsSound p t new
@@ -124,6 +131,7 @@ pub record PutsOut (p : IlProgram) (t : Tables) (old new : Machine) (b : ℕ) : 
 pub record WantsByte (p : IlProgram) (t : Tables) (old new : Machine) (d : ℕ) : Type 0 where
   pub sound : IsSound p t new
   pub less : fuel p new < fuel p old
+  pub at : IsNext p old (GetChar d)
   pub reg : d < (routine_in p new.routine).regs
   pub same : (input output : List ℕ) (s : Store) → SetsReg new.store s d (first_byte input) → to_come p t old input output ≡ to_come p t (record new { store = s }) (other_bytes input) output
 
@@ -132,12 +140,6 @@ Moved p t old new Next = GoesOn p t old new
 Moved p t old new (Get d) = WantsByte p t old new d
 Moved p t old new (Put b) = PutsOut p t old new b
 Moved p t old new (End e) = (input output : List ℕ) → run_of (to_come p t old input output) ≡ Some (record { output = output; ending = ending_of e })
-
--- the instruction that comes next
-pub record IsNext (p : IlProgram) (m : Machine) (i : Instr) : Type 0 where
-  pub within : m.instr < length (block_in (routine_in p m.routine) m.block).instrs
-  pub few : m.instr < 2 ^ 63
-  pub is : drop m.instr (block_in (routine_in p m.routine) m.block).instrs ≡ i ∷ drop (suc m.instr) (block_in (routine_in p m.routine) m.block).instrs
 
 -- a return of this value comes next
 pub record Returning (p : IlProgram) (m : Machine) (v : ℕ) : Type 0 where

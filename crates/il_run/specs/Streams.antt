@@ -66,3 +66,9 @@ abbrev pub AsksSo : Option (List Ask) → Option (List Ask) → Bool → Type 0
 AsksSo None new ended = ⊤
 AsksSo (Some old) None ended = ⊥
 AsksSo (Some old) (Some new) ended = Asking old new ended
+
+-- a call of the source failed: no byte was ahead, and the end wasn't met
+pub record FailsAt (old new : Ahead) : Type 0 where
+  pub before : old.next ≡ old.end
+  pub now : new.next ≡ new.end
+  pub open_yet : old.ended ≡ false

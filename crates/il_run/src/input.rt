@@ -1,8 +1,8 @@
 //! The input, some bytes at a time.
-ghost use Rattle.std.specs.Prelude.{◌≡◌, ◌<◌, ◌≤◌, ◌∷◌, [], IfOk, List, MatchBool, MatchResult, Option, true, false};
+ghost use Rattle.std.specs.Prelude.{◌≡◌, ◌<◌, ◌≤◌, ◌∷◌, [], ⊤, IfOk, List, MatchBool, MatchOption, MatchResult, OnErr, Option, true, false};
 ghost use Rattle.std.specs.Io.KnownBytes.{IsAtEnd, Keeps, prepend_known};
 ghost use Rattle.outside.specs.Faults.{HasCause};
-ghost use Rattle.il_run.specs.Streams.{AsksInTurn, AsksSo, GivesNext, IsAhead, ahead};
+ghost use Rattle.il_run.specs.Streams.{AsksInTurn, AsksSo, FailsAt, GivesNext, IsAhead, ahead};
 ghost use Rattle.outside.specs.declared.source.Ask.{Ask};
 
 use outside::{Failed, Source};
@@ -43,6 +43,9 @@ impl Ahead {
         requires ended { self.old.ended ≡ true → IsAtEnd (I.left input.old) }
         ensures fits { IsAhead self.new }
         ensures ended { self.new.ended ≡ true → IsAtEnd (I.left input.new) }
+        ensures shut { self.old.ended ≡ true → self.new.ended ≡ true }
+        ensures end { IfOk result (λ o. MatchOption o (self.new.ended ≡ true) (λ b. ⊤)) }
+        ensures failed { OnErr result (FailsAt self.old self.new) }
         ensures gives { GivesNext (prepend_known (ahead self.old) (I.left input.old)) (prepend_known (ahead self.new) (I.left input.new)) result }
         ensures asks { (start : Option (List Ask)) → AsksSo start (I.asks input.old) self.old.ended → MatchResult result (λ _. AsksSo start (I.asks input.new) self.new.ended) (λ _. AsksInTurn start (I.asks input.new)) }
         ensures cause { HasCause (I.faults input.old) (I.faults input.new) result }
@@ -50,7 +53,10 @@ impl Ahead {
         if self.next < self.end {
             return Ok(Some(self.take()));
         }
-        if self.ended || !self.refill(input)? {
+        if self.ended {
+            return Ok(None);
+        }
+        if !self.refill(input)? {
             return Ok(None);
         }
         Ok(Some(self.take()))
@@ -79,6 +85,8 @@ impl Ahead {
         ensures ended { self.new.ended ≡ true → IsAtEnd (I.left input.new) }
         ensures more { IfOk result (λ more. MatchBool more (self.new.next < self.new.end) (self.new.next ≡ self.new.end)) }
         ensures end { IfOk result (λ more. more ≡ false → IsAtEnd (I.left input.new)) }
+        ensures met { IfOk result (λ more. more ≡ false → self.new.ended ≡ true) }
+        ensures failed { OnErr result (FailsAt self.old self.new) }
         ensures known { Keeps (prepend_known (ahead self.old) (I.left input.old)) (prepend_known (ahead self.new) (I.left input.new)) }
         ensures asks { (start : Option (List Ask)) → AsksSo start (I.asks input.old) false → MatchResult result (λ _. AsksSo start (I.asks input.new) self.new.ended) (λ _. AsksInTurn start (I.asks input.new)) }
         ensures cause { HasCause (I.faults input.old) (I.faults input.new) result }

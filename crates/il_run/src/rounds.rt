@@ -1,9 +1,9 @@
 //! The run of a whole program.
-ghost use Rattle.std.specs.Prelude.{◌≡◌, ◌≤◌, IfOk, IfErr, List, OnErr, MatchOption, MatchResult, Option, true};
+ghost use Rattle.std.specs.Prelude.{◌≡◌, ◌≤◌, Err, IfOk, IfErr, List, OnErr, MatchOption, MatchResult, Option, true};
 ghost use Rattle.std.specs.Io.KnownBytes.{IsAtEnd, append_known, prepend_known};
 ghost use Rattle.il_core.specs.Valid.{IsProgram};
 ghost use Rattle.il_run.specs.Machine.{IsSound, IsTabled};
-ghost use Rattle.il_run.specs.Run.{EndsAs, HasReason, IfTold, LastRound, Round, StopsWithin};
+ghost use Rattle.il_run.specs.Run.{AsksFor, EndsAs, FailedAsk, HasReason, IfTold, LastRound, Round, StopsWithin};
 ghost use Rattle.il_run.specs.Ready.{IsReady};
 ghost use Rattle.il_run.specs.Streams.{AsksInTurn, AsksSo, GainsFront, IsAhead, ahead};
 ghost use Rattle.outside.specs.declared.source.Ask.{Ask};
@@ -39,6 +39,7 @@ pub fn run<I: Source, O: Sink>(
     ensures ends { IfOk result (λ e. IfTold (I.left input.old) (EndsAs p.now turns e (O.taken out.old) (O.taken out.new))) }
     ensures stops { OnErr result (IfTold (I.left input.old) (StopsWithin p.now turns (O.taken out.old) (O.taken out.new))) }
     ensures cause { IfErr result (λ f. HasReason f (I.faults input.old) (I.faults input.new) (O.faults out.old) (O.faults out.new)) }
+    ensures wanted { result ≡ Err RunFault.Input → IfTold (I.left input.old) (AsksFor p.now turns (I.left input.new)) }
     ensures asks { AsksInTurn (I.asks input.old) (I.asks input.new) }
     ensures input_later { I.faults input.old ≤ I.faults input.new }
     ensures output_later { O.faults out.old ≤ O.faults out.new }
@@ -87,6 +88,7 @@ impl Ready {
         ensures ends { IfOk result (λ e. IfTold (I.left input.old) (EndsAs p.now turns e (O.taken out.old) (O.taken out.new))) }
         ensures stops { OnErr result (IfTold (I.left input.old) (StopsWithin p.now turns (O.taken out.old) (O.taken out.new))) }
         ensures cause { IfErr result (λ f. HasReason f (I.faults input.old) (I.faults input.new) (O.faults out.old) (O.faults out.new)) }
+        ensures wanted { result ≡ Err RunFault.Input → IfTold (I.left input.old) (AsksFor p.now turns (I.left input.new)) }
         ensures asks { AsksInTurn (I.asks input.old) (I.asks input.new) }
         ensures input_later { I.faults input.old ≤ I.faults input.new }
         ensures output_later { O.faults out.old ≤ O.faults out.new }
@@ -130,10 +132,12 @@ fn round<I: Source, O: Sink>(
     ensures fits { IsAhead given.new }
     ensures ended { given.new.ended ≡ true → IsAtEnd (I.left input.new) }
     ensures moved { IfOk result (λ o. MatchOption o
-        (Round p.now t.now machine.old machine.new (prepend_known (ahead given.old) (I.left input.old)) (prepend_known (ahead given.new) (I.left input.new)) (append_known (O.taken out.old) pending.old.bytes.items) (append_known (O.taken out.new) pending.new.bytes.items))
+        (Round p.now t.now machine.old machine.new (prepend_known (ahead given.old) (I.left input.old)) (prepend_known (ahead given.new) (I.left input.new)) (append_known (O.taken out.old) pending.old.bytes.items) (append_known (O.taken out.new) pending.new.bytes.items) given.new.ended)
         (λ e. LastRound p.now t.now machine.old e (O.taken out.old) (O.taken out.new) pending.old.bytes.items)) }
     ensures front { GainsFront (O.taken out.old) (O.taken out.new) pending.old.bytes.items }
     ensures cause { IfErr result (λ f. HasReason f (I.faults input.old) (I.faults input.new) (O.faults out.old) (O.faults out.new)) }
+    ensures shut { given.old.ended ≡ true → given.new.ended ≡ true }
+    ensures wanted { result ≡ Err RunFault.Input → FailedAsk p.now machine.old given.old given.new (prepend_known (ahead given.old) (I.left input.old)) (prepend_known (ahead given.new) (I.left input.new)) }
     ensures asks { (start : Option (List Ask)) → AsksSo start (I.asks input.old) given.old.ended → MatchResult result (λ _. AsksSo start (I.asks input.new) given.new.ended) (λ _. AsksInTurn start (I.asks input.new)) }
     ensures input_later { I.faults input.old ≤ I.faults input.new }
     ensures output_later { O.faults out.old ≤ O.faults out.new }

@@ -1,5 +1,5 @@
-use Rattle.std.proofs.Common.{le_trans, rules}
-use Rattle.il_run.proofs.Running.{if_told, told_map, nothing_ahead, starts_holding, round_holds, round_ends, round_stops}
+use Rattle.std.proofs.Common.{◌∙◌, le_trans, rules}
+use Rattle.il_run.proofs.Running.{if_told, told_map, nothing_ahead, starts_holding, round_holds, round_ends, round_stops, starts_using, round_uses, round_wants, same_fault, still_open}
 use Rattle.il_run.proofs.Asking.{asks_first, asks_turn}
 use Rattle.il_run.proofs.rounds.Ready.drive.Goals as goal
 
@@ -10,6 +10,7 @@ rounds-init g c = record {
   fits = c.requires.ready.fits;
   at_end = search rules;
   told = if_told _ _ (λ bytes e. starts_holding _ _ _ _ _ _ _ bytes c.requires.ready.starts (nothing_ahead _ _ bytes c.requires.ready.none e) c.requires.ready.empty);
+  using_so = λ e. if_told _ _ (λ bytes e1. starts_using _ _ _ _ _ bytes c.requires.ready.starts (nothing_ahead _ _ bytes c.requires.ready.none e1));
   asks = asks_first _ _;
   input_later = search rules;
   output_later = search rules;
@@ -23,7 +24,8 @@ rounds-preserved g c =
       sound = moved.sound;
       fits = c.round-ended.ensures.fits;
       at_end = c.round-ended.ensures.ended;
-      told = told_map _ _ _ c.rounds.invariant.told (λ bytes h. round_holds _ _ _ _ _ _ _ _ _ _ _ _ bytes h moved c.round-ended.ensures.front);
+      told = told_map _ _ _ c.rounds.invariant.told (λ bytes h. round_holds _ _ _ _ _ _ _ _ _ _ _ _ bytes _ h moved c.round-ended.ensures.front);
+      using_so = λ e. told_map _ _ _ (c.rounds.invariant.using_so (still_open _ _ c.round-ended.ensures.shut e)) (λ bytes h. round_uses _ _ _ _ _ _ _ bytes h (moved.uses e));
       asks = rw c.in-Ok.is at (c.round-ended.ensures.asks _ c.rounds.invariant.asks);
       input_later = le_trans c.rounds.invariant.input_later c.round-ended.ensures.input_later;
       output_later = le_trans c.rounds.invariant.output_later c.round-ended.ensures.output_later;
@@ -45,3 +47,8 @@ returns-in-Some-clause-asks g c = asks_turn _ _ _ (rw c.in-Ok.is at (c.round-end
 
 pub returns-in-Err-clause-asks : goal.returns-in-Err-clause-asks
 returns-in-Err-clause-asks g c = rw c.in-Err.is at (c.round-ended.ensures.asks _ c.rounds.invariant.asks)
+
+pub returns-in-Err-clause-wanted : goal.returns-in-Err-clause-wanted
+returns-in-Err-clause-wanted g c = λ e.
+    let f = c.round-ended.ensures.wanted (c.in-Err.is ∙ same_fault c.in-Err.fault _ e) in
+    told_map _ _ _ (c.rounds.invariant.using_so f.at.open_yet) (λ bytes h. round_wants _ _ _ _ _ _ _ _ bytes c.rounds.invariant.tabled c.rounds.invariant.sound h f)
