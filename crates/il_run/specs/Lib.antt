@@ -1,0 +1,10 @@
+pub mod Blocks
+pub mod Frames
+pub mod Machine
+pub mod Plain
+pub mod Ready
+pub mod Run
+pub mod Start
+pub mod Streams
+pub mod Tables
+pub mod Words

@@ -1,0 +1,92 @@
+-- What a run promises.
+use Rattle.std.specs.Prelude.{◌≡◌, ℕ, ◌<◌, ◌++◌, List, Option, Some, None, ⊤, [], Bool, false}
+use Rattle.std.specs.Io.KnownBytes.{Appends, Consumes, Keeps}
+use Rattle.outside.specs.Faults.{Rose}
+use Rattle.il_core.specs.declared.program.IlProgram.{IlProgram}
+use Rattle.il_core.specs.declared.instr.Instr.TheVariants.{GetChar}
+use Rattle.il_core.specs.Program.{main_pid}
+use Rattle.il_core.specs.Meaning.{Run, il_run, run_of, act, at_start}
+use Rattle.il_run.specs.declared.input.Ahead.{Ahead}
+use Rattle.il_run.specs.declared.ending.Ending.{Ending}
+use Rattle.il_run.specs.declared.ending.RunFault.{RunFault}
+use Rattle.il_run.specs.declared.ending.RunFault.TheVariants as fault
+use Rattle.il_run.specs.declared.machine.Machine.{Machine}
+use Rattle.il_run.specs.declared.tables.Tables.{Tables}
+use Rattle.il_run.specs.Streams.{FailsAt, GainsFront}
+use Rattle.il_run.specs.Machine.{ending_of, IsNext, IsSound, IsTabled, fuel, to_come}
+
+-- of told bytes; nothing where none are told
+abbrev pub IfTold : Option (List ℕ) → (List ℕ → Type 0) → Type 0
+IfTold None P = ⊤
+IfTold (Some bytes) P = P bytes
+
+-- on these bytes and with these turns the program ends so, and the sink gained its output
+pub record EndsAs (p : IlProgram) (turns : ℕ) (e : Ending) (old new : Option (List ℕ)) (bytes : List ℕ) : Type 0 where
+  pub output : List ℕ
+  pub run : il_run p bytes turns ≡ Some (record { output = output; ending = ending_of e })
+  pub gained : Appends old new output
+
+-- the program has a run on these bytes and with these turns, and the sink gained a front of its output
+pub record StopsWithin (p : IlProgram) (turns : ℕ) (old new : Option (List ℕ)) (bytes : List ℕ) : Type 0 where
+  pub run : Run
+  pub is_run : il_run p bytes turns ≡ Some run
+  pub gained : GainsFront old new run.output
+
+-- the fault of the source or the sink comes only where its count rose
+abbrev pub HasReason : RunFault → ℕ → ℕ → ℕ → ℕ → Type 0
+HasReason fault.Input input input_now output output_now = Rose input input_now
+HasReason fault.Output input input_now output output_now = Rose output output_now
+HasReason fault.Memory input input_now output output_now = ⊤
+
+-- one step of a machine whose known input is left, and what it puts out
+pub record Goes (p : IlProgram) (t : Tables) (old new : Machine) (known put put_now : Option (List ℕ)) (rest : List ℕ) : Type 0 where
+  pub left : List ℕ
+  pub out : List ℕ
+  pub is_left : known ≡ Some left
+  pub is_out : Appends put put_now out
+  pub same : (output : List ℕ) → to_come p t old rest output ≡ to_come p t new left (output ++ out)
+
+-- some bytes are used in a step, and the step is the same whatever input follows them
+pub record Uses (p : IlProgram) (t : Tables) (old new : Machine) (known known_now : Option (List ℕ)) : Type 0 where
+  pub bytes : List ℕ
+  pub out : List ℕ
+  pub consumed : Consumes known known_now bytes
+  pub alike : (more output : List ℕ) → to_come p t old (bytes ++ more) output ≡ to_come p t new more (output ++ out)
+
+pub record Round (p : IlProgram) (t : Tables) (old new : Machine) (known known_now put put_now : Option (List ℕ)) (ended : Bool) : Type 0 where
+  pub sound : IsSound p t new
+  pub less : fuel p new < fuel p old
+  pub goes : (rest : List ℕ) → known ≡ Some rest → Goes p t old new known_now put put_now rest
+  pub uses : ended ≡ false → Uses p t old new known known_now
+
+-- the program ended in this step, and the sink took what waited
+pub record LastRound (p : IlProgram) (t : Tables) (old : Machine) (e : Ending) (taken taken_now : Option (List ℕ)) (waiting : List ℕ) : Type 0 where
+  pub run : (rest output : List ℕ) → run_of (to_come p t old rest output) ≡ Some (record { output = output; ending = ending_of e })
+  pub took : Appends taken taken_now waiting
+
+-- The program wants a byte after these: with any further input behind them it stands, at the same place, at a
+-- `getchar` that has all of that input before it.
+pub record Wants (p : IlProgram) (turns : ℕ) (used : List ℕ) : Type 0 where
+  pub tables : Tables
+  pub machine : Machine
+  pub tabled : IsTabled p tables
+  pub sound : IsSound p tables machine
+  pub register : ℕ
+  pub output : List ℕ
+  pub next : IsNext p machine (GetChar register)
+  pub alike : (more : List ℕ) → act p (main_pid p.shapes) [] (at_start tt p (used ++ more) turns) ≡ to_come p tables machine more output
+
+-- of told bytes some were taken, after which the program wants one more, and the rest is left
+pub record AsksFor (p : IlProgram) (turns : ℕ) (left : Option (List ℕ)) (bytes : List ℕ) : Type 0 where
+  pub used : List ℕ
+  pub rest : List ℕ
+  pub split : bytes ≡ used ++ rest
+  pub is_left : left ≡ Some rest
+  pub wants : Wants p turns used
+
+-- the source failed in this step, where a byte was wanted
+pub record FailedAsk (p : IlProgram) (m : Machine) (old new : Ahead) (known known_now : Option (List ℕ)) : Type 0 where
+  pub register : ℕ
+  pub next : IsNext p m (GetChar register)
+  pub at : FailsAt old new
+  pub kept : Keeps known known_now

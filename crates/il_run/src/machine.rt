@@ -1,0 +1,268 @@
+//! A running program, step by step.
+ghost use Rattle.std.specs.Prelude.{◌≡◌, ◌^◌, ◌<◌, ◌≤◌, IfOk, length};
+ghost use Rattle.il_core.specs.Size.{blocks_size};
+ghost use Rattle.il_core.specs.Valid.{IsProgram};
+ghost use Rattle.il_run.specs.Machine.{IsNext, IsSound, IsTabled, Moved, Returning, block_in, routine_in};
+ghost use Rattle.il_run.specs.Plain.{Fits, IsPlain};
+
+use crate::ending::Ending;
+use crate::store::Store;
+use crate::tables::Tables;
+use hlo_num::Word;
+use il_core::{End, IlProgram, Instr, Routine};
+use std::alloc::AllocError;
+
+/// A call that waits for another one to return: where it goes on, the register that gets the value,
+/// and where its registers and elements begin.
+#[derive(Clone, Copy)]
+pub struct Suspended {
+    pub routine: u32,
+    pub block: u32,
+    pub instr: usize,
+    pub dest: Option<u32>,
+    pub at_regs: usize,
+    pub at_elements: usize,
+}
+
+/// A running program: its words, where the current call stands, the calls that wait, the first one
+/// first, and the turns left.
+#[derive(Drop)]
+pub struct Machine {
+    pub store: Store,
+    /// The current call's routine, by its position in the program.
+    pub routine: u32,
+    pub block: u32,
+    /// How many of the block's instructions are done.
+    pub instr: usize,
+    pub stack: Vec<Suspended>,
+    pub turns: u64,
+}
+
+/// What a step asks for.
+#[derive(Clone, Copy)]
+pub enum Move {
+    /// Nothing.
+    Next,
+    /// A register gets the next byte of the input, or 4294967295 at its end.
+    Get(u32),
+    /// A byte is put out.
+    Put(u8),
+    /// The program has ended.
+    End(Ending),
+}
+
+impl Machine {
+    /// One step: an instruction, or the end of a block. Want of memory leaves the machine in no
+    /// state that anything is said of.
+    pub fn advance(&mut self, p: &IlProgram, t: &Tables) -> Result<Move, AllocError>
+        requires valid { IsProgram p.now }
+        requires tabled { IsTabled p.now t.now }
+        requires sound { IsSound p.now t.now self.old }
+        ensures { IfOk result (λ move. Moved p.now t.now self.old self.new move) }
+    {
+        let routine = &p.routines.as_slice()[self.routine as usize];
+        let block = &routine.blocks.as_slice()[self.block as usize];
+        let instrs = block.instrs.as_slice();
+        if self.instr < instrs.len() {
+            self.execute(p, t, routine, &instrs[self.instr])
+        } else {
+            Ok(self.finish(p, t, routine, &block.end))
+        }
+    }
+
+    #[inline]
+    fn execute(
+        &mut self,
+        p: &IlProgram,
+        t: &Tables,
+        routine: &Routine,
+        instr: &Instr,
+    ) -> Result<Move, AllocError>
+        requires valid { IsProgram p.now }
+        requires tabled { IsTabled p.now t.now }
+        requires sound { IsSound p.now t.now self.old }
+        requires routine { routine.now ≡ routine_in p.now self.old.routine }
+        requires next { IsNext p.now self.old instr.now }
+        ensures { IfOk result (λ move. Moved p.now t.now self.old self.new move) }
+    {
+        match instr {
+            Instr::Turn => Ok(self.take_turn(p, t)),
+            Instr::Call {
+                dest,
+                callee,
+                count,
+                args,
+            } => self.call(p, t, routine, *dest, *callee, *count, args.as_slice()),
+            Instr::GetChar(d) => Ok(self.get(p, t, *d)),
+            Instr::PutChar(d, s) => Ok(self.put(p, t, *d, *s)),
+            _ => Ok(self.plain(p, t, routine, instr)),
+        }
+    }
+
+    /// A turn, where one is left.
+    fn take_turn(&mut self, p: &IlProgram, t: &Tables) -> Move
+        requires tabled { IsTabled p.now t.now }
+        requires sound { IsSound p.now t.now self.old }
+        requires next { IsNext p.now self.old Instr.Turn }
+        ensures { Moved p.now t.now self.old self.new result }
+    {
+        if self.turns == 0 {
+            return Move::End(Ending::OutOfTurns);
+        }
+        self.turns -= 1;
+        self.instr += 1;
+        Move::Next
+    }
+
+    /// The next byte is wanted.
+    fn get(&mut self, p: &IlProgram, t: &Tables, d: u32) -> Move
+        requires tabled { IsTabled p.now t.now }
+        requires sound { IsSound p.now t.now self.old }
+        requires next { IsNext p.now self.old (Instr.GetChar d) }
+        requires reg { d < (routine_in p.now self.old.routine).regs }
+        ensures { Moved p.now t.now self.old self.new result }
+    {
+        self.instr += 1;
+        Move::Get(d)
+    }
+
+    /// A byte is put out.
+    fn put(&mut self, p: &IlProgram, t: &Tables, d: u32, x: u32) -> Move
+        requires tabled { IsTabled p.now t.now }
+        requires sound { IsSound p.now t.now self.old }
+        requires next { IsNext p.now self.old (Instr.PutChar d x) }
+        requires reg { d < (routine_in p.now self.old.routine).regs }
+        requires source { x < (routine_in p.now self.old.routine).regs }
+        ensures { Moved p.now t.now self.old self.new result }
+    {
+        let v = self.store.reg(x);
+        let b = v % 256;
+        self.store.set(d, b);
+        self.instr += 1;
+        Move::Put(b as u8)
+    }
+
+    /// An instruction on words alone.
+    #[inline]
+    fn plain(&mut self, p: &IlProgram, t: &Tables, routine: &Routine, instr: &Instr) -> Move
+        requires tabled { IsTabled p.now t.now }
+        requires sound { IsSound p.now t.now self.old }
+        requires routine { routine.now ≡ routine_in p.now self.old.routine }
+        requires next { IsNext p.now self.old instr.now }
+        requires plain { IsPlain instr.now }
+        requires fits { Fits routine.now t.now.objects.sizes.items instr.now }
+        ensures { Moved p.now t.now self.old self.new result }
+    {
+        let arrays = &t.arrays[self.routine as usize];
+        match self.store.plain(routine, arrays, &t.objects, instr) {
+            Ok(()) => {
+                self.instr += 1;
+                Move::Next
+            }
+            Err(trap) => Move::End(Ending::Trapped(trap)),
+        }
+    }
+
+    /// A call, where a turn is left.
+    fn call(
+        &mut self,
+        p: &IlProgram,
+        t: &Tables,
+        routine: &Routine,
+        dest: Option<u32>,
+        callee: u32,
+        count: u32,
+        args: &[u32],
+    ) -> Result<Move, AllocError>
+        requires valid { IsProgram p.now }
+        requires tabled { IsTabled p.now t.now }
+        requires sound { IsSound p.now t.now self.old }
+        requires routine { routine.now ≡ routine_in p.now self.old.routine }
+        requires next { IsNext p.now self.old (Instr.Call dest callee count args.now) }
+        ensures { IfOk result (λ move. Moved p.now t.now self.old self.new move) }
+    {
+        if self.turns == 0 {
+            return Ok(Move::End(Ending::OutOfTurns));
+        }
+        let position = t.position[callee as usize];
+        let called = &p.routines.as_slice()[position as usize];
+        let elements = t.arrays[position as usize].total();
+        let waiting = Suspended {
+            routine: self.routine,
+            block: self.block,
+            instr: self.instr + 1,
+            dest,
+            at_regs: self.store.at_regs,
+            at_elements: self.store.at_elements,
+        };
+        self.store.enter(routine, args, called.regs, elements)?;
+        self.stack.push(waiting)?;
+        self.routine = position;
+        self.block = 0;
+        self.instr = 0;
+        self.turns -= 1;
+        Ok(Move::Next)
+    }
+
+    /// The end of a block.
+    fn finish(&mut self, p: &IlProgram, t: &Tables, routine: &Routine, end: &End) -> Move
+        requires valid { IsProgram p.now }
+        requires tabled { IsTabled p.now t.now }
+        requires sound { IsSound p.now t.now self.old }
+        requires routine { routine.now ≡ routine_in p.now self.old.routine }
+        requires few { blocks_size routine.now.blocks ≤ 2 ^ 16 }
+        requires done { length (block_in (routine_in p.now self.old.routine) self.old.block).instrs ≤ self.old.instr }
+        requires end { end.now ≡ (block_in (routine_in p.now self.old.routine) self.old.block).end }
+        ensures { Moved p.now t.now self.old self.new result }
+    {
+        match end {
+            End::Jump(u) => {
+                self.block = *u;
+                self.instr = 0;
+                Move::Next
+            }
+            End::Branch(x, u, v) => {
+                let c = self.store.reg(*x);
+                self.instr = 0;
+                if c == 0 {
+                    self.block = *v;
+                    return Move::Next;
+                }
+                self.block = *u;
+                Move::Next
+            }
+            End::Loop(u) => {
+                if self.turns == 0 {
+                    return Move::End(Ending::OutOfTurns);
+                }
+                self.turns -= 1;
+                self.block = *u;
+                self.instr = 0;
+                Move::Next
+            }
+            End::Return(x) => {
+                let v = self.store.value(routine, *x);
+                self.give(p, t, v)
+            }
+            End::Exit(x) => Move::End(Ending::Exit(Word(self.store.reg(*x)))),
+        }
+    }
+
+    /// The current call returns a word.
+    fn give(&mut self, p: &IlProgram, t: &Tables, v: u32) -> Move
+        requires tabled { IsTabled p.now t.now }
+        requires sound { IsSound p.now t.now self.old }
+        requires returns { Returning p.now self.old v }
+        ensures { Moved p.now t.now self.old self.new result }
+    {
+        let Some(waiting) = self.stack.pop() else {
+            return Move::End(Ending::Exit(Word(v)));
+        };
+        self.store.leave(waiting.at_regs, waiting.at_elements);
+        self.store.receive(waiting.dest, v);
+        self.routine = waiting.routine;
+        self.block = waiting.block;
+        self.instr = waiting.instr;
+        Move::Next
+    }
+}
