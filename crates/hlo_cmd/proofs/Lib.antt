@@ -10,3 +10,4 @@ pub mod Rows
 pub mod Sources
 pub mod Statements
 pub mod Texts
+pub mod Validity

@@ -74,7 +74,7 @@ front_size e r b bs =
     omega arith
 
 -- there is an open block
-open_block : (ss : Body) (r : ℕ) → (b : Block) × (bs : List Block) × (blocks ss r ≡ b ∷ bs)
+pub open_block : (ss : Body) (r : ℕ) → (b : Block) × (bs : List Block) × (blocks ss r ≡ b ∷ bs)
 open_block [] r = (_, [], refl)
 open_block (Eval e ∷ ss) r = let x = open_block ss (regs_after e r) in (_, x.1, ap (in_front e r) x.2)
 open_block (Return e ∷ ss) r = (_, blocks ss (regs_after e r), refl)

@@ -18,6 +18,7 @@ use Rattle.hlo_cmd.specs.Lowering.{lowered, main_routine, program_of}
 use Rattle.hlo_cmd.specs.Refusal.{Refuses, status_of}
 use Rattle.hlo_cmd.specs.Tree.{Body}
 use Rattle.hlo_cmd.proofs.Kept.{kept}
+use Rattle.hlo_cmd.proofs.Validity.{lowered_valid}
 
 pub on_err : {T E : Type 0} {P : Type 0} (r : Result T E) → P → OnErr r P
 on_err (Ok x) h = tt
@@ -45,6 +46,7 @@ prints words tells a b file r report n request (body, source, is) h sized report
       body = body;
       accepted = record { file = file; request = request; source = source };
       printed = subst (λ q. Appends a b (text (program_of q))) is h;
+      valid = lowered_valid body;
       meaning = kept body;
       reported = reported ∙ ap (λ c. record { charged_peak = 0; under_peak = 0; compactions = 0; offloads = 0; reloads = 0; cost_before = c; cost_after = c }) costs;
     }

@@ -6,6 +6,7 @@ use Rattle.outside.specs.Told.{Told, Untold, Absent, Holds}
 use Rattle.il_core.specs.Meaning.{il_run}
 use Rattle.il_core.specs.Size.{cost}
 use Rattle.il_core.specs.Text.{text}
+use Rattle.il_core.specs.Valid.{IsProgram}
 use Rattle.hlo_cmd.specs.declared.report.Report.{Report}
 use Rattle.hlo_cmd.specs.Grammar.{IsSource, IsOnlySource}
 use Rattle.hlo_cmd.specs.Lowering.{lowered}
@@ -43,11 +44,12 @@ MeansSame body = (input : List ℕ) (turns : ℕ) → il_run (lowered body) inpu
 abbrev pub report_of : Body → Report
 report_of body = record { charged_peak = 0; under_peak = 0; compactions = 0; offloads = 0; reloads = 0; cost_before = cost ((lowered body).routines); cost_after = cost ((lowered body).routines) }
 
--- the text of the lowered program was put out, and its costs reported
+-- the text of the lowered program, which is valid, was put out, and its costs reported
 pub record Prints (words : List (List ℕ)) (tells : List ℕ → Told) (before after : Option (List ℕ)) (report : Report) : Type 0 where
   pub body : Body
   pub accepted : Accepts words tells body
   pub printed : Appends before after (text (lowered body))
+  pub valid : IsProgram (lowered body)
   pub meaning : MeansSame body
   pub reported : report ≡ report_of body
 
