@@ -1,0 +1,4 @@
+mod FirstBroken
+mod MetConditions
+mod RisingRows
+mod ValidRoutines
