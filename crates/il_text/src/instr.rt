@@ -94,7 +94,7 @@ pub(crate) fn write_end(out: &mut String, end: &End) -> Result<(), AllocError>
 }
 
 /// A word read as signed.
-fn signed_of(word: Word) -> i32
+pub(crate) fn signed_of(word: Word) -> i32
     ensures { result ≡ signed word.0 }
 {
     word.0.cast_signed()
