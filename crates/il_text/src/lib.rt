@@ -3,7 +3,10 @@
 
 mod head;
 mod instr;
+mod numbers;
+mod operands;
 mod routine;
+mod words;
 
 pub use head::write_head;
 pub use routine::write_routine;
