@@ -11,6 +11,7 @@ use std::str;
 /// The number below 2^32 that a word spells, if it spells one.
 pub(crate) fn number(word: &[u8]) -> Option<u32>
     ensures found { IfSome result (λ n. word.now ≡ decimal n) }
+    ensures range { IfSome result (λ n. n < 2 ^ 32) }
     ensures each { (n : ℕ) → n < 2 ^ 32 → word.now ≡ decimal n → result ≡ Some n }
 {
     if is_padded(word) {
@@ -32,6 +33,7 @@ fn is_padded(bytes: &[u8]) -> bool
 
 /// The number below 2^32 that decimal digits, perhaps behind a `+`, stand for.
 fn parsed(bytes: &[u8]) -> Option<u32>
+    ensures range { IfSome result (λ n. n < 2 ^ 32) }
     ensures digits { IfSome result (λ n. is_padded bytes.now ≡ false → bytes.now ≡ decimal n) }
     ensures each { (n : ℕ) → n < 2 ^ 32 → bytes.now ≡ decimal n → result ≡ Some n }
 {
@@ -44,6 +46,7 @@ fn parsed(bytes: &[u8]) -> Option<u32>
 /// The number below 2^32 that a word spells behind a letter, if it spells one.
 pub(crate) fn numbered(word: &[u8], letter: u8) -> Option<u32>
     ensures found { IfSome result (λ n. word.now ≡ letter ∷ decimal n) }
+    ensures range { IfSome result (λ n. n < 2 ^ 32) }
     ensures each { (n : ℕ) → n < 2 ^ 32 → word.now ≡ letter ∷ decimal n → result ≡ Some n }
 {
     let (first, digits) = word.split_first()?;
@@ -57,6 +60,7 @@ pub(crate) fn numbered(word: &[u8], letter: u8) -> Option<u32>
 /// The machine word that a word spells as a signed number, if it spells one.
 pub(crate) fn signed(word: &[u8]) -> Option<Word>
     ensures found { IfSome result (λ w. word.now ≡ signed_decimal (signed w.0)) }
+    ensures range { IfSome result (λ w. w.0 < 2 ^ 32) }
     ensures each { (w : Word) → w.0 < 2 ^ 32 → word.now ≡ signed_decimal (signed w.0) → result ≡ Some w }
 {
     match numbered(word, b'-') {
@@ -68,6 +72,7 @@ pub(crate) fn signed(word: &[u8]) -> Option<Word>
 /// The word of a number with a sign, if there is one.
 fn negative(n: u32) -> Option<Word>
     ensures found { IfSome result (λ w. signed_decimal (signed w.0) ≡ 45 ∷ decimal n) }
+    ensures range { IfSome result (λ w. w.0 < 2 ^ 32) }
     ensures each { (w : Word) → w.0 < 2 ^ 32 → signed_decimal (signed w.0) ≡ 45 ∷ decimal n → result ≡ Some w }
 {
     match n {
@@ -79,6 +84,7 @@ fn negative(n: u32) -> Option<Word>
 /// The word of a number without a sign, if there is one.
 fn nonnegative(n: u32) -> Option<Word>
     ensures found { IfSome result (λ w. signed_decimal (signed w.0) ≡ decimal n) }
+    ensures range { IfSome result (λ w. w.0 < 2 ^ 32) }
     ensures each { (w : Word) → w.0 < 2 ^ 32 → signed_decimal (signed w.0) ≡ decimal n → result ≡ Some w }
 {
     if n < 1 << 31 { Some(Word(n)) } else { None }

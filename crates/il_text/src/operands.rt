@@ -18,6 +18,7 @@ const PIDS: u32 = 1 << 17;
 /// A register, and the words behind it.
 pub(crate) fn register(words: Words<'_>) -> Option<(u32, Words<'_>)>
     ensures found { IfSome result (λ x. words_left words.entry ≡ reg x.0 ∷ words_left x.1) }
+    ensures range { IfSome result (λ x. x.0 < 2 ^ 32) }
     ensures each { (n : ℕ) (ws : List (List ℕ)) → n < 2 ^ 32 → words_left words.entry ≡ reg n ∷ ws → IsRead result n ws }
 {
     let (word, rest) = next(words)?;
@@ -28,6 +29,7 @@ pub(crate) fn register(words: Words<'_>) -> Option<(u32, Words<'_>)>
 /// A local array, and the words behind it.
 pub(crate) fn array(words: Words<'_>) -> Option<(u32, Words<'_>)>
     ensures found { IfSome result (λ x. words_left words.entry ≡ array x.0 ∷ words_left x.1) }
+    ensures range { IfSome result (λ x. x.0 < 2 ^ 32) }
     ensures each { (n : ℕ) (ws : List (List ℕ)) → n < 2 ^ 32 → words_left words.entry ≡ array n ∷ ws → IsRead result n ws }
 {
     let (word, rest) = next(words)?;
@@ -38,6 +40,7 @@ pub(crate) fn array(words: Words<'_>) -> Option<(u32, Words<'_>)>
 /// A block, and the words behind it.
 pub(crate) fn block(words: Words<'_>) -> Option<(u32, Words<'_>)>
     ensures found { IfSome result (λ x. words_left words.entry ≡ block x.0 ∷ words_left x.1) }
+    ensures range { IfSome result (λ x. x.0 < 2 ^ 32) }
     ensures each { (n : ℕ) (ws : List (List ℕ)) → n < 2 ^ 32 → words_left words.entry ≡ block n ∷ ws → IsRead result n ws }
 {
     let (word, rest) = next(words)?;
@@ -48,6 +51,7 @@ pub(crate) fn block(words: Words<'_>) -> Option<(u32, Words<'_>)>
 /// A number, and the words behind it.
 pub(crate) fn count(words: Words<'_>) -> Option<(u32, Words<'_>)>
     ensures found { IfSome result (λ x. words_left words.entry ≡ decimal x.0 ∷ words_left x.1) }
+    ensures range { IfSome result (λ x. x.0 < 2 ^ 32) }
     ensures each { (n : ℕ) (ws : List (List ℕ)) → n < 2 ^ 32 → words_left words.entry ≡ decimal n ∷ ws → IsRead result n ws }
 {
     let (word, rest) = next(words)?;
@@ -69,6 +73,7 @@ pub(crate) fn global(words: Words<'_>) -> Option<(u32, Words<'_>)>
 /// A word, and the words behind it.
 pub(crate) fn constant(words: Words<'_>) -> Option<(Word, Words<'_>)>
     ensures found { IfSome result (λ x. words_left words.entry ≡ word x.0 ∷ words_left x.1) }
+    ensures range { IfSome result (λ x. x.0.0 < 2 ^ 32) }
     ensures each { (w : Word) (ws : List (List ℕ)) → w.0 < 2 ^ 32 → words_left words.entry ≡ word w ∷ ws → IsRead result w ws }
 {
     let (word, rest) = next(words)?;
@@ -102,21 +107,167 @@ fn narrow_type(word: &[u8]) -> Option<Ty>
     }
 }
 
-/// A register at the end.
-pub(crate) fn register_alone(words: Words<'_>) -> Option<u32>
+/// A register alone.
+pub(crate) fn only_register(words: Words<'_>) -> Option<u32>
     ensures found { IfSome result (λ n. words_left words.entry ≡ reg n ∷ []) }
+    ensures range { IfSome result (λ n. n < 2 ^ 32) }
     ensures each { (n : ℕ) → n < 2 ^ 32 → words_left words.entry ≡ reg n ∷ [] → result ≡ Some n }
 {
-    let (n, rest) = register(words)?;
-    if is_done(rest) { Some(n) } else { None }
+    let (first, words) = register(words)?;
+    if is_done(words) { Some(first) } else { None }
 }
 
-/// Two registers at the end.
-pub(crate) fn two_registers(words: Words<'_>) -> Option<(u32, u32)>
+/// Two registers.
+pub(crate) fn registers(words: Words<'_>) -> Option<(u32, u32)>
     ensures found { IfSome result (λ x. words_left words.entry ≡ reg x.0 ∷ reg x.1 ∷ []) }
-    ensures each { (n m : ℕ) → n < 2 ^ 32 → m < 2 ^ 32 → words_left words.entry ≡ reg n ∷ reg m ∷ [] → result ≡ Some (n, m) }
+    ensures range { IfSome result (λ x. (x.0 < 2 ^ 32) × (x.1 < 2 ^ 32)) }
+    ensures each { (n : ℕ) (m : ℕ) → n < 2 ^ 32 → m < 2 ^ 32 → words_left words.entry ≡ reg n ∷ reg m ∷ [] → result ≡ Some (n, m) }
 {
-    let (n, rest) = register(words)?;
-    let m = register_alone(rest)?;
-    Some((n, m))
+    let (first, words) = register(words)?;
+    let (second, words) = register(words)?;
+    if is_done(words) {
+        Some((first, second))
+    } else {
+        None
+    }
+}
+
+/// A word alone.
+pub(crate) fn only_constant(words: Words<'_>) -> Option<Word>
+    ensures found { IfSome result (λ n. words_left words.entry ≡ word n ∷ []) }
+    ensures range { IfSome result (λ n. n.0 < 2 ^ 32) }
+    ensures each { (w : Word) → w.0 < 2 ^ 32 → words_left words.entry ≡ word w ∷ [] → result ≡ Some w }
+{
+    let (first, words) = constant(words)?;
+    if is_done(words) { Some(first) } else { None }
+}
+
+/// A narrow type and a register.
+pub(crate) fn narrow_register(words: Words<'_>) -> Option<(Ty, u32)>
+    ensures found { IfSome result (λ x. words_left words.entry ≡ type_name x.0 ∷ reg x.1 ∷ []) }
+    ensures range { IfSome result (λ x. IsTrue (is_narrow x.0) × (x.1 < 2 ^ 32)) }
+    ensures each { (t : Ty) (n : ℕ) → IsTrue (is_narrow t) → n < 2 ^ 32 → words_left words.entry ≡ type_name t ∷ reg n ∷ [] → result ≡ Some (t, n) }
+{
+    let (first, words) = narrow(words)?;
+    let (second, words) = register(words)?;
+    if is_done(words) {
+        Some((first, second))
+    } else {
+        None
+    }
+}
+
+/// An object alone.
+pub(crate) fn only_global(words: Words<'_>) -> Option<u32>
+    ensures found { IfSome result (λ n. words_left words.entry ≡ global n ∷ []) }
+    ensures range { IfSome result (λ n. IsPid n) }
+    ensures each { (n : ℕ) → IsPid n → words_left words.entry ≡ global n ∷ [] → result ≡ Some n }
+{
+    let (first, words) = global(words)?;
+    if is_done(words) { Some(first) } else { None }
+}
+
+/// An object and a register.
+pub(crate) fn global_register(words: Words<'_>) -> Option<(u32, u32)>
+    ensures found { IfSome result (λ x. words_left words.entry ≡ global x.0 ∷ reg x.1 ∷ []) }
+    ensures range { IfSome result (λ x. IsPid x.0 × (x.1 < 2 ^ 32)) }
+    ensures each { (n : ℕ) (m : ℕ) → IsPid n → m < 2 ^ 32 → words_left words.entry ≡ global n ∷ reg m ∷ [] → result ≡ Some (n, m) }
+{
+    let (first, words) = global(words)?;
+    let (second, words) = register(words)?;
+    if is_done(words) {
+        Some((first, second))
+    } else {
+        None
+    }
+}
+
+/// An object and two registers.
+pub(crate) fn global_registers(words: Words<'_>) -> Option<(u32, u32, u32)>
+    ensures found { IfSome result (λ x. words_left words.entry ≡ global x.0 ∷ reg x.1 ∷ reg x.2 ∷ []) }
+    ensures range { IfSome result (λ x. IsPid x.0 × (x.1 < 2 ^ 32) × (x.2 < 2 ^ 32)) }
+    ensures each { (n : ℕ) (m : ℕ) (k : ℕ) → IsPid n → m < 2 ^ 32 → k < 2 ^ 32 → words_left words.entry ≡ global n ∷ reg m ∷ reg k ∷ [] → result ≡ Some (n, m, k) }
+{
+    let (first, words) = global(words)?;
+    let (second, words) = register(words)?;
+    let (third, words) = register(words)?;
+    if is_done(words) {
+        Some((first, second, third))
+    } else {
+        None
+    }
+}
+
+/// A local array and a register.
+pub(crate) fn array_register(words: Words<'_>) -> Option<(u32, u32)>
+    ensures found { IfSome result (λ x. words_left words.entry ≡ array x.0 ∷ reg x.1 ∷ []) }
+    ensures range { IfSome result (λ x. (x.0 < 2 ^ 32) × (x.1 < 2 ^ 32)) }
+    ensures each { (n : ℕ) (m : ℕ) → n < 2 ^ 32 → m < 2 ^ 32 → words_left words.entry ≡ array n ∷ reg m ∷ [] → result ≡ Some (n, m) }
+{
+    let (first, words) = array(words)?;
+    let (second, words) = register(words)?;
+    if is_done(words) {
+        Some((first, second))
+    } else {
+        None
+    }
+}
+
+/// A local array and two registers.
+pub(crate) fn array_registers(words: Words<'_>) -> Option<(u32, u32, u32)>
+    ensures found { IfSome result (λ x. words_left words.entry ≡ array x.0 ∷ reg x.1 ∷ reg x.2 ∷ []) }
+    ensures range { IfSome result (λ x. (x.0 < 2 ^ 32) × (x.1 < 2 ^ 32) × (x.2 < 2 ^ 32)) }
+    ensures each { (n : ℕ) (m : ℕ) (k : ℕ) → n < 2 ^ 32 → m < 2 ^ 32 → k < 2 ^ 32 → words_left words.entry ≡ array n ∷ reg m ∷ reg k ∷ [] → result ≡ Some (n, m, k) }
+{
+    let (first, words) = array(words)?;
+    let (second, words) = register(words)?;
+    let (third, words) = register(words)?;
+    if is_done(words) {
+        Some((first, second, third))
+    } else {
+        None
+    }
+}
+
+/// A range of registers and one of local arrays.
+pub(crate) fn ranges(words: Words<'_>) -> Option<(u32, u32, u32, u32)>
+    ensures found { IfSome result (λ x. words_left words.entry ≡ reg x.0 ∷ decimal x.1 ∷ array x.2 ∷ decimal x.3 ∷ []) }
+    ensures range { IfSome result (λ x. (x.0 < 2 ^ 32) × (x.1 < 2 ^ 32) × (x.2 < 2 ^ 32) × (x.3 < 2 ^ 32)) }
+    ensures each { (n : ℕ) (m : ℕ) (k : ℕ) (l : ℕ) → n < 2 ^ 32 → m < 2 ^ 32 → k < 2 ^ 32 → l < 2 ^ 32 → words_left words.entry ≡ reg n ∷ decimal m ∷ array k ∷ decimal l ∷ [] → result ≡ Some (n, m, k, l) }
+{
+    let (first, words) = register(words)?;
+    let (second, words) = count(words)?;
+    let (third, words) = array(words)?;
+    let (fourth, words) = count(words)?;
+    if is_done(words) {
+        Some((first, second, third, fourth))
+    } else {
+        None
+    }
+}
+
+/// A block alone.
+pub(crate) fn only_block(words: Words<'_>) -> Option<u32>
+    ensures found { IfSome result (λ n. words_left words.entry ≡ block n ∷ []) }
+    ensures range { IfSome result (λ n. n < 2 ^ 32) }
+    ensures each { (n : ℕ) → n < 2 ^ 32 → words_left words.entry ≡ block n ∷ [] → result ≡ Some n }
+{
+    let (first, words) = block(words)?;
+    if is_done(words) { Some(first) } else { None }
+}
+
+/// A register and two blocks.
+pub(crate) fn register_blocks(words: Words<'_>) -> Option<(u32, u32, u32)>
+    ensures found { IfSome result (λ x. words_left words.entry ≡ reg x.0 ∷ block x.1 ∷ block x.2 ∷ []) }
+    ensures range { IfSome result (λ x. (x.0 < 2 ^ 32) × (x.1 < 2 ^ 32) × (x.2 < 2 ^ 32)) }
+    ensures each { (n : ℕ) (m : ℕ) (k : ℕ) → n < 2 ^ 32 → m < 2 ^ 32 → k < 2 ^ 32 → words_left words.entry ≡ reg n ∷ block m ∷ block k ∷ [] → result ≡ Some (n, m, k) }
+{
+    let (first, words) = register(words)?;
+    let (second, words) = block(words)?;
+    let (third, words) = block(words)?;
+    if is_done(words) {
+        Some((first, second, third))
+    } else {
+        None
+    }
 }
