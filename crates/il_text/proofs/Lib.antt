@@ -1,3 +1,5 @@
 pub mod Lines
 pub mod WordSplits
 mod Decimals
+mod NamedThings
+mod ReadLists

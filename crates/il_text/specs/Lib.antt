@@ -1,3 +1,5 @@
 pub mod Numerals
 pub mod Spaced
 pub mod Words
+pub mod Mnemonics
+pub mod Statements

@@ -101,7 +101,7 @@ pub(crate) fn signed_of(word: Word) -> i32
 }
 
 /// An operator's name.
-fn name_of_op(op: Op) -> &'static str
+pub(crate) fn name_of_op(op: Op) -> &'static str
     ensures { result.now ≡ op_name op }
 {
     match op {

@@ -3,9 +3,12 @@
 
 mod head;
 mod instr;
+mod lists;
+mod mnemonic;
 mod numbers;
 mod operands;
 mod routine;
+mod statement;
 mod words;
 
 pub use head::write_head;
