@@ -3,3 +3,4 @@ pub mod WordSplits
 mod Decimals
 mod NamedThings
 mod ReadLists
+mod StatementForms

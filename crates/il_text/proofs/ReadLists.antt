@@ -1,5 +1,9 @@
 -- Lists that are read item by item.
-use Rattle.std.proofs.Common.{◌≡◌, ℕ, suc, ◌+◌, ◌<◌, ◌≤◌, List, [], ◌∷◌, ◌++◌, length, map, refl, sym, ◌∙◌, ap, subst, append-nil, append_assoc, arith}
+use Rattle.std.proofs.Common.{◌≡◌, ℕ, suc, ◌+◌, ◌<◌, ◌≤◌, List, [], ◌∷◌, ◌++◌, length, map, refl, sym, ◌∙◌, ap, subst, append-nil, append_assoc, length-append, sum, arith}
+use Rattle.std.specs.Prelude.{◌==◌}
+use Rattle.std.proofs.lemmas.List.Sums.{sum_by-append}
+use Rattle.hlo_num.specs.declared.word.Word.{Word}
+use Rattle.il_core.specs.Object.{ends_with_zero}
 use Rattle.std.specs.List.{AllByRecursion}
 
 -- items xs are read from the whole, and no other list that fits is it but one that goes on from them
@@ -35,9 +39,9 @@ one_more {X} spell fits whole left behind xs ys x h k e next push = subst (IsRea
   so_far = h.so_far ∙ ap (λ l. map spell xs ++ l) e ∙ map_push spell xs x behind;
   fit = all_push fits xs x h.fit k;
   only = λ zs all is.
-    let r = h.only zs all is in
-    let s = goes_on spell fits left behind x r.0 e next r.2 r.3 in
-    (s.0, r.1 ∙ ap (λ l. xs ++ l) s.1 ∙ sym (append_assoc xs (x ∷ []) s.0), s.2, s.3)
+      let r = h.only zs all is in
+      let s = goes_on spell fits left behind x r.0 e next r.2 r.3 in
+      (s.0, r.1 ∙ ap (λ l. xs ++ l) s.1 ∙ sym (append_assoc xs (x ∷ []) s.0), s.2, s.3);
 })
 
 pub all_read : {X : Type 0} (spell : X → List ℕ) (fits : X → Type 0) (whole left : List (List ℕ)) (xs : List X) → IsReadSoFar spell fits whole left xs → left ≡ [] → whole ≡ map spell xs
@@ -53,21 +57,50 @@ only_these spell fits whole left xs h e ys all is =
     let r = h.only ys all is in
     sym (r.1 ∙ ap (λ l. xs ++ l) (nothing_left spell r.0 (sym e ∙ r.3)) ∙ append-nil xs)
 
+longer : {X : Type 0} (xs ys : List X) → (ys ≡ [] → ⊥) → length xs < length (xs ++ ys)
+longer [] [] some = absurd (some refl)
+longer [] (y ∷ ys) some = omega arith
+longer (x ∷ xs) ys some = omega (arith, longer xs ys some)
+
 -- where more is left, a list that is the whole is longer
 pub is_longer : {X : Type 0} (spell : X → List ℕ) (fits : X → Type 0) (whole left : List (List ℕ)) (xs : List X) → IsReadSoFar spell fits whole left xs → (left ≡ [] → ⊥)
     → (ys : List X) → AllByRecursion fits ys → whole ≡ map spell ys → length xs < length ys
-is_longer {X} spell fits whole left xs h more ys all is = let r = h.only ys all is in subst (λ l. length xs < length l) (sym r.1) (longer xs r.0 (λ e. more (r.3 ∙ ap (map spell) e)))
-  where
-  longer : (as bs : List X) → (bs ≡ [] → ⊥) → length as < length (as ++ bs)
-  longer [] [] no = absurd (no refl)
-  longer [] (b ∷ bs) no = omega arith
-  longer (a ∷ as) bs no = omega (arith, longer as bs no)
+is_longer spell fits whole left xs h more ys all is = let r = h.only ys all is in subst (λ l. length xs < length l) (sym r.1) (longer xs r.0 (λ e. more (r.3 ∙ ap (map spell) e)))
+
+stuck : {X : Type 0} (spell : X → List ℕ) (fits : X → Type 0) (left : List (List ℕ)) → (left ≡ [] → ⊥)
+    → ((y : X) (ws : List (List ℕ)) → fits y → left ≡ spell y ∷ ws → ⊥) → (zs : List X) → AllByRecursion fits zs → left ≡ map spell zs → ⊥
+stuck spell fits left more none [] a e = more e
+stuck spell fits left more none (z ∷ zs) a e = none z (map spell zs) a.0 e
 
 -- where the next item can't be read, there is no such list
 pub no_list : {X : Type 0} (spell : X → List ℕ) (fits : X → Type 0) (whole left : List (List ℕ)) (xs : List X) → IsReadSoFar spell fits whole left xs → (left ≡ [] → ⊥)
     → ((y : X) (ws : List (List ℕ)) → fits y → left ≡ spell y ∷ ws → ⊥) → (ys : List X) → AllByRecursion fits ys → whole ≡ map spell ys → ⊥
-no_list {X} spell fits whole left xs h more no ys all is = let r = h.only ys all is in stuck r.0 r.2 r.3
-  where
-  stuck : (zs : List X) → AllByRecursion fits zs → left ≡ map spell zs → ⊥
-  stuck [] a e = more e
-  stuck (z ∷ zs) a e = no z (map spell zs) a.0 e
+no_list spell fits whole left xs h more none ys all is = let r = h.only ys all is in stuck spell fits left more none r.0 r.2 r.3
+
+-- the items read and the next one stand in front of a list that is the whole
+pub has_next : {X : Type 0} (spell : X → List ℕ) (fits : X → Type 0) (whole left behind : List (List ℕ)) (xs : List X) (x : X) → IsReadSoFar spell fits whole left xs → left ≡ spell x ∷ behind → IsNext spell fits left x behind
+    → (ys : List X) → AllByRecursion fits ys → whole ≡ map spell ys → (zs : List X) × (ys ≡ xs ++ x ∷ zs)
+has_next spell fits whole left behind xs x h e next ys all is =
+    let r = h.only ys all is in
+    let s = goes_on spell fits left behind x r.0 e next r.2 r.3 in
+    (s.0, r.1 ∙ ap (λ l. xs ++ l) s.1)
+
+pub length_push : {X : Type 0} (xs ys : List X) (x : X) → ys ≡ xs ++ x ∷ [] → length ys ≡ length xs + 1
+length_push xs ys x e = ap length e ∙ length-append xs (x ∷ [])
+
+sum_append : (xs ys : List ℕ) → sum (xs ++ ys) ≡ sum xs + sum ys
+sum_append xs ys = sum_by-append (λ n. n) xs ys
+
+pub sum_push : (xs ys : List ℕ) (x : ℕ) → ys ≡ xs ++ x ∷ [] → sum ys ≡ sum xs + x
+sum_push xs ys x e = ap sum e ∙ sum_append xs (x ∷ [])
+
+pub sum_at_least : (xs : List ℕ) (x : ℕ) (zs ys : List ℕ) → ys ≡ xs ++ x ∷ zs → sum xs + x ≤ sum ys
+sum_at_least xs x zs ys e = let s : sum ys ≡ sum xs + sum (x ∷ zs) = ap sum e ∙ sum_append xs (x ∷ zs) in let t : sum (x ∷ zs) ≡ x + sum zs = sum_append (x ∷ []) zs in omega (arith, s, t)
+
+ends_push : (xs : List Word) (x : Word) → ends_with_zero (xs ++ x ∷ []) ≡ (x.0 == 0)
+ends_push [] x = refl
+ends_push (y ∷ []) x = refl
+ends_push (y ∷ z ∷ xs) x = ends_push (z ∷ xs) x
+
+pub last_push : (xs ys : List Word) (x : Word) → ys ≡ xs ++ x ∷ [] → (x.0 == 0) ≡ ends_with_zero ys
+last_push xs ys x e = sym (ap ends_with_zero e ∙ ends_push xs x)

@@ -3,3 +3,5 @@ pub mod Spaced
 pub mod Words
 pub mod Mnemonics
 pub mod Statements
+pub mod Lines
+pub mod Parts

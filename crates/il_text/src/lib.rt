@@ -3,6 +3,7 @@
 
 mod head;
 mod instr;
+mod line;
 mod lists;
 mod mnemonic;
 mod numbers;

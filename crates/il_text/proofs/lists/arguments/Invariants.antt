@@ -5,8 +5,8 @@ use Rattle.il_text.specs.Words.{words_left}
 use Rattle.il_text.proofs.ReadLists.{IsReadSoFar}
 use Rattle.il_text.proofs.lists.arguments.Given as goal
 
-abbrev pub invariant-loop-args : goal.invariant-loop-args
-invariant-loop-args l = record { read : IsReadSoFar reg IsWord (words_left l.fn.words) (words_left l.left) l.args; few : length l.args ≤ 31 }
+abbrev pub invariant-loop-left : goal.invariant-loop-left
+invariant-loop-left l = record { read : IsReadSoFar reg IsWord (words_left l.fn.words) (words_left l.left) l.args; few : length l.args ≤ 31 }
 
-abbrev pub decreases-loop-args : goal.decreases-loop-args
-decreases-loop-args l = length (words_left l.left)
+abbrev pub decreases-loop-left : goal.decreases-loop-left
+decreases-loop-left l = length (words_left l.left)
