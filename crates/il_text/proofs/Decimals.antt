@@ -8,7 +8,7 @@ use Rattle.std.specs.Str.Parse.{AllDigits, digits_value, ParsesUnsigned}
 use Rattle.std.proofs.lemmas.Bool.{ne_eqb, eqb-false, cases_lt, lt-ltb, le-ltb}
 use Rattle.std.proofs.lemmas.Str.{IsUtf8-from_ascii}
 use Rattle.std.proofs.lemmas.Str.Parse.{IsNumeralModel, numerals_by_value, tells_digits, digit_at, parse_plain}
-use Rattle.std.proofs.lemmas.Fmt.{decimal_digit, first_decimal, digits_decimal, decimal-digits_value, decimal_injective, IsAscii-decimal, parse-decimal}
+use Rattle.std.proofs.lemmas.Fmt.{decimal_digit, first_decimal, digits_decimal, decimal-digits_value, decimal_injective, decimal_nonempty, IsAscii-decimal, parse-decimal}
 use Rattle.hlo_num.specs.Words.{signed}
 use Rattle.hlo_num.specs.declared.word.Word.{Word}
 use Rattle.il_text.specs.Numerals.{is_padded}
@@ -93,3 +93,11 @@ signed_nonnegative w n lt fits e = elim (cases_lt w (2 ^ 31)) [
 
 pub word_is : (n : ℕ) (w : Word) → n ≡ w.0 → Some (record { 0 = n }) ≡ Some w
 word_is n w e = ap (λ (m : ℕ). let v : Word = record { 0 = m } in Some v) e
+
+begins : (ds : List ℕ) → AllDigits 10 ds → 0 < length ds → (c : ℕ) × (cs : List ℕ) × ((48 ≤ c) × (c ≤ 57)) × (ds ≡ c ∷ cs)
+begins [] all some = absurd (omega arith)
+begins (d ∷ ds) all some = let r = digit_at (d ∷ ds) 0 all (omega arith) in (d, ds, (r.0, r.1), refl)
+
+-- a number begins with a digit
+pub decimal_begins : (n : ℕ) → n < 2 ^ 64 → (c : ℕ) × (cs : List ℕ) × ((48 ≤ c) × (c ≤ 57)) × (decimal n ≡ c ∷ cs)
+decimal_begins n lt = begins (decimal n) (digits_decimal own n lt) (decimal_nonempty n lt)

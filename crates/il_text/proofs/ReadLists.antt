@@ -92,10 +92,10 @@ sum_append : (xs ys : List ℕ) → sum (xs ++ ys) ≡ sum xs + sum ys
 sum_append xs ys = sum_by-append (λ n. n) xs ys
 
 pub sum_push : (xs ys : List ℕ) (x : ℕ) → ys ≡ xs ++ x ∷ [] → sum ys ≡ sum xs + x
-sum_push xs ys x e = ap sum e ∙ sum_append xs (x ∷ [])
+sum_push xs ys x e = let s : sum ys ≡ sum xs + (0 + x) = ap sum e ∙ sum_append xs (x ∷ []) in omega (arith, s)
 
 pub sum_at_least : (xs : List ℕ) (x : ℕ) (zs ys : List ℕ) → ys ≡ xs ++ x ∷ zs → sum xs + x ≤ sum ys
-sum_at_least xs x zs ys e = let s : sum ys ≡ sum xs + sum (x ∷ zs) = ap sum e ∙ sum_append xs (x ∷ zs) in let t : sum (x ∷ zs) ≡ x + sum zs = sum_append (x ∷ []) zs in omega (arith, s, t)
+sum_at_least xs x zs ys e = let s : sum ys ≡ sum xs + sum (x ∷ zs) = ap sum e ∙ sum_append xs (x ∷ zs) in let t : sum (x ∷ zs) ≡ (0 + x) + sum zs = sum_append (x ∷ []) zs in omega (arith, s, t)
 
 ends_push : (xs : List Word) (x : Word) → ends_with_zero (xs ++ x ∷ []) ≡ (x.0 == 0)
 ends_push [] x = refl

@@ -5,3 +5,4 @@ pub mod Mnemonics
 pub mod Statements
 pub mod Lines
 pub mod Parts
+pub mod Heads

@@ -2,6 +2,7 @@
 #![tactic(auto)]
 
 mod head;
+mod header;
 mod instr;
 mod line;
 mod lists;
