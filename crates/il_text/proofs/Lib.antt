@@ -4,3 +4,4 @@ mod Decimals
 mod NamedThings
 mod ReadLists
 mod StatementForms
+mod LineForms

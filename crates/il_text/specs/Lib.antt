@@ -6,3 +6,6 @@ pub mod Statements
 pub mod Lines
 pub mod Parts
 pub mod Heads
+pub mod Kinds
+pub mod Fronts
+pub mod FitFronts
