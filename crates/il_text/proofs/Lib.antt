@@ -5,3 +5,5 @@ mod NamedThings
 mod ReadLists
 mod StatementForms
 mod LineForms
+mod RunFronts
+mod GrowFronts

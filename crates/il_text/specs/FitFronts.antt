@@ -9,6 +9,7 @@ use Rattle.il_core.specs.Size.{size}
 use Rattle.il_text.specs.declared.front.Front.{Front}
 use Rattle.il_text.specs.declared.front.Place.{Place}
 use Rattle.il_text.specs.declared.front.Place.TheVariants as place
+use Rattle.il_text.specs.declared.line.NamedObject.{NamedObject}
 use Rattle.il_text.specs.declared.line.NamedRoutine.{NamedRoutine}
 use Rattle.il_text.specs.declared.statement.Statement.TheVariants as statement
 use Rattle.il_text.specs.Lines.{IsFitObject, IsFitStatement}
@@ -30,16 +31,16 @@ IsFitPlace (place.InRoutine r n) = IsFitRoutine r × (n ≡ size r.routine)
 IsFitPlace (place.InBlock r n is) = IsFitRoutine r × (n ≡ size r.routine) × IsFitBlock n is
 IsFitPlace place.Done = ⊤
 
--- how many routines there may be before a place: an open one is one more
-abbrev pub IsRoomAt : Place → List NamedRoutine → Type 0
-IsRoomAt place.Start rs = rs ≡ []
-IsRoomAt place.Outside rs = length rs ≤ 2 ^ 12
-IsRoomAt (place.InRoutine r n) rs = length rs < 2 ^ 12
-IsRoomAt (place.InBlock r n is) rs = length rs < 2 ^ 12
-IsRoomAt place.Done rs = length rs ≤ 2 ^ 12
+-- how many routines there may be before a place: an open one is one more; at the start there is nothing
+abbrev pub IsRoomAt : Place → List NamedObject → List NamedRoutine → Type 0
+IsRoomAt place.Start os rs = (os ≡ []) × (rs ≡ [])
+IsRoomAt place.Outside os rs = length rs ≤ 2 ^ 12
+IsRoomAt (place.InRoutine r n) os rs = length rs < 2 ^ 12
+IsRoomAt (place.InBlock r n is) os rs = length rs < 2 ^ 12
+IsRoomAt place.Done os rs = length rs ≤ 2 ^ 12
 
 pub record IsFitFront (f : Front) : Type 0 where
   pub objects : AllByRecursion IsFitObject f.objects
   pub routines : AllByRecursion IsFitRoutine f.routines
   pub place : IsFitPlace f.place
-  pub room : IsRoomAt f.place f.routines
+  pub room : IsRoomAt f.place f.objects f.routines
