@@ -71,10 +71,10 @@ first_digit : (n c : ℕ) (bs : List ℕ) → n < 2 ^ 64 → decimal n ≡ c ∷
 first_digit n c bs lt e = low_digit (c ∷ bs) (subst (AllDigits 10) e (digits_decimal own n lt))
 
 -- words from 2^31 on have a sign
-without_sign : (w : ℕ) → w < 2 ^ 31 → signed_decimal (signed w) ≡ decimal w
+pub without_sign : (w : ℕ) → w < 2 ^ 31 → signed_decimal (signed w) ≡ decimal w
 without_sign w lt = rw (lt-ltb w 2147483648 (omega arith)) refl
 
-with_sign : (w n : ℕ) → 2 ^ 31 ≤ w → w < 2 ^ 32 → n ≡ 2 ^ 32 - w → signed_decimal (signed w) ≡ 45 ∷ decimal n
+pub with_sign : (w n : ℕ) → 2 ^ 31 ≤ w → w < 2 ^ 32 → n ≡ 2 ^ 32 - w → signed_decimal (signed w) ≡ 45 ∷ decimal n
 with_sign w n le lt e = rw (le-ltb w 2147483648 (omega arith)) (ap (λ m. 45 ∷ decimal m) (omega arith))
 
 -- a word with a sign is the one that the number is short of 2^32
@@ -101,3 +101,6 @@ begins (d ∷ ds) all some = let r = digit_at (d ∷ ds) 0 all (omega arith) in 
 -- a number begins with a digit
 pub decimal_begins : (n : ℕ) → n < 2 ^ 64 → (c : ℕ) × (cs : List ℕ) × ((48 ≤ c) × (c ≤ 57)) × (decimal n ≡ c ∷ cs)
 decimal_begins n lt = begins (decimal n) (digits_decimal own n lt) (decimal_nonempty n lt)
+
+pub all_digits : (n : ℕ) → n < 2 ^ 64 → AllDigits 10 (decimal n)
+all_digits n lt = digits_decimal own n lt

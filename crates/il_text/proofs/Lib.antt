@@ -7,3 +7,4 @@ mod StatementForms
 mod LineForms
 mod RunFronts
 mod GrowFronts
+mod PlainWords

@@ -9,3 +9,4 @@ pub mod Heads
 pub mod Kinds
 pub mod Fronts
 pub mod FitFronts
+pub mod Texts
