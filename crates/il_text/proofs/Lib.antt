@@ -8,3 +8,6 @@ mod LineForms
 mod RunFronts
 mod GrowFronts
 mod PlainWords
+mod LineBytes
+mod FitLines
+pub mod LineSplits

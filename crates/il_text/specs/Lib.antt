@@ -10,3 +10,4 @@ pub mod Kinds
 pub mod Fronts
 pub mod FitFronts
 pub mod Texts
+pub mod Feeds

@@ -1,6 +1,7 @@
 //! The text of IL: its head, its routines.
 #![tactic(auto)]
 
+mod feeds;
 mod front;
 mod head;
 mod header;
