@@ -11,3 +11,4 @@ mod PlainWords
 mod LineBytes
 mod FitLines
 pub mod LineSplits
+mod NextLines

@@ -11,3 +11,4 @@ pub mod Fronts
 pub mod FitFronts
 pub mod Texts
 pub mod Feeds
+pub mod Faults

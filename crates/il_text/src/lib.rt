@@ -1,6 +1,7 @@
 //! The text of IL: its head, its routines.
 #![tactic(auto)]
 
+mod fault;
 mod feeds;
 mod front;
 mod head;
@@ -11,9 +12,11 @@ mod lists;
 mod mnemonic;
 mod numbers;
 mod operands;
+mod reading;
 mod routine;
 mod statement;
 mod words;
 
+pub use fault::{IlFault, IlKind};
 pub use head::write_head;
 pub use routine::write_routine;
