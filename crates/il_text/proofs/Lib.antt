@@ -12,3 +12,4 @@ mod LineBytes
 mod FitLines
 pub mod LineSplits
 mod NextLines
+mod KnownItems

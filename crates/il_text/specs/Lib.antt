@@ -12,3 +12,5 @@ pub mod FitFronts
 pub mod Texts
 pub mod Feeds
 pub mod Faults
+pub mod Order
+pub mod Known

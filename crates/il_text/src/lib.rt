@@ -12,6 +12,7 @@ mod lists;
 mod mnemonic;
 mod numbers;
 mod operands;
+mod order;
 mod reading;
 mod routine;
 mod statement;

@@ -29,6 +29,24 @@ pub(crate) struct NamedRoutine {
     pub(crate) routine: Routine,
 }
 
+impl NamedObject {
+    /// The object's PID.
+    pub(crate) fn pid(&self) -> u32
+        ensures { result ≡ self.now.object.pid }
+    {
+        self.object.pid
+    }
+}
+
+impl NamedRoutine {
+    /// The routine's PID.
+    pub(crate) fn pid(&self) -> u32
+        ensures { result ≡ self.now.routine.pid }
+    {
+        self.routine.pid
+    }
+}
+
 /// A line of a text.
 #[derive(Drop)]
 pub(crate) enum Line {
