@@ -13,3 +13,4 @@ mod FitLines
 pub mod LineSplits
 mod NextLines
 mod KnownItems
+mod Counts

@@ -14,3 +14,5 @@ pub mod Feeds
 pub mod Faults
 pub mod Order
 pub mod Known
+pub mod Assembled
+pub mod Checked

@@ -1,6 +1,7 @@
 //! The text of IL: its head, its routines.
 #![tactic(auto)]
 
+mod check;
 mod fault;
 mod feeds;
 mod front;
@@ -13,6 +14,7 @@ mod mnemonic;
 mod numbers;
 mod operands;
 mod order;
+mod program;
 mod reading;
 mod routine;
 mod statement;
