@@ -1,4 +1,4 @@
 mod FirstBroken
 mod MetConditions
-mod RisingRows
+pub mod RisingRows
 mod ValidRoutines

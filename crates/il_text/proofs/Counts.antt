@@ -51,7 +51,7 @@ or_true : (b : Bool) → (b || true) ≡ true
 or_true true = refl
 or_true false = refl
 
-same_bytes : (xs ys : List ℕ) → bytes_eq xs ys ≡ true → xs ≡ ys
+pub same_bytes : (xs ys : List ℕ) → bytes_eq xs ys ≡ true → xs ≡ ys
 same_bytes xs ys e = (bytes_eq-Decides xs ys).0 e
 
 -- A test that an item brings to what was used: a PID or a name.
@@ -68,7 +68,7 @@ mapped_none : (o : Option ℕ) → option_map (λ k. k + 1) o ≡ None → o ≡
 mapped_none None e = refl
 mapped_none (Some n) e = absurd cc
 
-placed_head : (used : List Item) (before : Option ℕ) (x : Item) (xs : List Item) → first_misplaced used before (x ∷ xs) ≡ None → (is_placed used before x ≡ true) × (first_misplaced (used ++ x ∷ []) (Some x.pid) xs ≡ None)
+pub placed_head : (used : List Item) (before : Option ℕ) (x : Item) (xs : List Item) → first_misplaced used before (x ∷ xs) ≡ None → (is_placed used before x ≡ true) × (first_misplaced (used ++ x ∷ []) (Some x.pid) xs ≡ None)
 placed_head used before x xs e = elim (cases_Bool (is_placed used before x)) [
   | inl is ↦ (is, mapped_none (first_misplaced (used ++ x ∷ []) (Some x.pid) xs) (rw is at e))
   | inr misses ↦ let s : Some 0 ≡ None = rw misses at e in absurd (cc s)
@@ -163,3 +163,37 @@ rises (x ∷ y ∷ ys) h k =
 
 pub rows_rise : (os : List NamedObject) (rs : List NamedRoutine) (rows : List ShapeRow) → is_in_order os rs ≡ None → IsPermutation (all_rows os rs) rows → IsNonDecreasingBy (λ r. r.pid) rows → IsRising (λ r. r.pid) rows
 rows_rise os rs rows e h k = rises rows k (λ q. let m = count_moved (λ (r : ShapeRow). r.pid == q) (all_rows os rs) rows h in omega (arith, m, rows_pids q os rs e))
+
+-- where none passes, each fails
+none_pass : {X : Type 0} (t : X → Bool) (xs : List X) → count t xs ≡ 0 → AllByRecursion (λ x. t x ≡ false) xs
+none_pass t [] e = tt
+none_pass t (x ∷ xs) e = elim (cases_Bool (t x)) [
+  | inl is ↦ let c = count_in t x xs is in absurd (omega (arith, c, e))
+  | inr misses ↦ (misses, none_pass t xs (sym (count_out t x xs misses) ∙ e))
+]
+
+other_names : (name : List ℕ) (rows : List ShapeRow) → AllByRecursion (λ (r : ShapeRow). bytes_eq r.name name ≡ false) rows → AllByRecursion (λ (r : ShapeRow). r.name ≢ name) rows
+other_names name [] h = tt
+other_names name (r ∷ rows) h = ((λ e. absurd (true≢false (sym ((bytes_eq-Decides r.name name).1 e) ∙ h.0))), other_names name rows h.1)
+
+names_once : (rows : List ShapeRow) → ((q : List ℕ) → count (λ (r : ShapeRow). bytes_eq r.name q) rows ≤ 1) → HasEachNameOnce rows
+names_once [] k = tt
+names_once (row ∷ rows) k =
+    let c = count_in (λ (r : ShapeRow). bytes_eq r.name row.name) row rows ((bytes_eq-Decides row.name row.name).1 refl) in (
+      other_names row.name rows (none_pass (λ (r : ShapeRow). bytes_eq r.name row.name) rows (omega (arith, c, k row.name))),
+      names_once rows (λ q. let d = count_cons (λ (r : ShapeRow). bytes_eq r.name q) row rows in omega (arith, d, k q)),
+    )
+
+pub rows_names_once : (os : List NamedObject) (rs : List NamedRoutine) (rows : List ShapeRow) → is_in_order os rs ≡ None → IsPermutation (all_rows os rs) rows → HasEachNameOnce rows
+rows_names_once os rs rows e h = names_once rows (λ q. let m = count_moved (λ (r : ShapeRow). bytes_eq r.name q) (all_rows os rs) rows h in omega (arith, m, rows_names q os rs e))
+
+all_fail : {X : Type 0} (t : X → Bool) (xs : List X) → AllByRecursion (λ x. t x ≡ false) xs → count t xs ≡ 0
+all_fail t [] h = count_none t
+all_fail t (x ∷ xs) h = count_out t x xs h.0 ∙ all_fail t xs h.1
+
+-- what holds of each row holds of them in another order
+pub each_moved : (t : ShapeRow → Bool) (os : List NamedObject) (rs : List NamedRoutine) (rows : List ShapeRow) → IsPermutation (all_rows os rs) rows → AllByRecursion (λ o. t (object_row o) ≡ false) os → AllByRecursion (λ r. t (routine_row r) ≡ false) rs → AllByRecursion (λ x. t x ≡ false) rows
+each_moved t os rs rows h a b = none_pass t rows
+    (count_moved t (all_rows os rs) rows h ∙ count_append t (map object_row os) (map routine_row rs)
+    ∙ ap (λ n. n + count t (map routine_row rs)) (count_map object_row t os ∙ all_fail (λ o. t (object_row o)) os a)
+    ∙ ap (λ n. 0 + n) (count_map routine_row t rs ∙ all_fail (λ r. t (routine_row r)) rs b))

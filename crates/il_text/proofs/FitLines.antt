@@ -62,7 +62,7 @@ objects_fit : (os : List NamedObject) → AllByRecursion IsFitObject os → AreF
 objects_fit [] h = tt
 objects_fit (o ∷ os) h = (h.0, objects_fit os h.1)
 
-blocks_few : (xs : List Block) → length xs ≤ blocks_size xs
+pub blocks_few : (xs : List Block) → length xs ≤ blocks_size xs
 blocks_few [] = omega arith
 blocks_few (x ∷ xs) = let total : blocks_size (x ∷ xs) ≡ block_size x + blocks_size xs = sum_by-cons block_size x xs in omega (arith, total, blocks_few xs)
 

@@ -14,3 +14,5 @@ pub mod LineSplits
 mod NextLines
 mod KnownItems
 mod Counts
+mod Programs
+mod ProgramText

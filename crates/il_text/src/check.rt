@@ -1,8 +1,8 @@
 //! Whether what was read is a valid program.
-ghost use Rattle.std.specs.Prelude.{◌≡◌, ◌^◌, ◌≤◌, IfNone};
+ghost use Rattle.std.specs.Prelude.{◌≡◌, ◌+◌, ◌*◌, ◌^◌, ◌<◌, ◌≤◌, IfNone, IfSome, length};
 ghost use Rattle.std.specs.List.{list_any, AllByRecursion};
 ghost use Rattle.il_core.specs.Valid.{IsValid};
-ghost use Rattle.il_text.specs.Checked.{is_main, is_main_shape, line_count};
+ghost use Rattle.il_text.specs.Checked.{IsFirstFlawed, is_main, is_main_shape, line_count};
 
 use il_check::{Flaw, validate};
 use il_core::{Routine, Shape, ShapeRow, Shapes};
@@ -26,14 +26,16 @@ fn line_count(routine: &Routine) -> u64
 /// The first routine that isn't valid, with the line at which it begins, where the first routine begins at a
 /// line.
 pub(crate) fn first_flaw(routines: &[Routine], shapes: &Shapes, line: u64) -> Option<Flawed>
+    requires { line + 2 ^ 18 * length routines.now < 2 ^ 63 }
     ensures valid { IfNone result (AllByRecursion (IsValid shapes.now) routines.now) }
+    ensures first { IfSome result (λ x. IsFirstFlawed shapes.now routines.now line x.line x.flaw) }
 {
-    let mut line = line;
+    let mut at = line;
     for routine in routines {
         if let Some(flaw) = validate(routine, shapes) {
-            return Some(Flawed { line, flaw });
+            return Some(Flawed { line: at, flaw });
         }
-        line = line.saturating_add(line_count(routine));
+        at += line_count(routine);
     }
     None
 }
