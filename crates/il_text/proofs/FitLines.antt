@@ -1,13 +1,13 @@
 -- The lines of a front that fits are lines that fit.
-use Rattle.std.proofs.Common.{◌≡◌, ℕ, ◌+◌, ◌^◌, ◌<◌, ◌≤◌, List, [], ◌∷◌, ◌++◌, length, map, refl, sym, ◌∙◌, ap, subst, arith}
-use Rattle.std.specs.Prelude.{flat_map, sum_by}
+use Rattle.std.proofs.Common.{◌≡◌, ℕ, ◌+◌, ◌^◌, ◌<◌, ◌≤◌, List, [], ◌∷◌, ◌++◌, length, map, refl, arith}
+use Rattle.std.specs.Prelude.{flat_map}
 use Rattle.std.specs.List.{AllByRecursion}
 use Rattle.std.proofs.lemmas.List.Sums.{sum_by-cons}
 use Rattle.il_core.specs.declared.instr.Block.{Block}
 use Rattle.il_core.specs.declared.instr.Instr.{Instr}
 use Rattle.il_core.specs.Limits.{IsBlock, IsInstr}
 use Rattle.il_core.specs.Ranges.{IsBlockOfWords, AreWords, numbers_of}
-use Rattle.il_core.specs.Size.{block_size, blocks_size, size}
+use Rattle.il_core.specs.Size.{block_size, blocks_size}
 use Rattle.il_text.specs.declared.front.Front.{Front}
 use Rattle.il_text.specs.declared.front.Place.{Place}
 use Rattle.il_text.specs.declared.front.Place.TheVariants.{Start, Outside, InRoutine, InBlock, Done}
@@ -17,8 +17,8 @@ use Rattle.il_text.specs.declared.line.NamedObject.{NamedObject}
 use Rattle.il_text.specs.declared.line.NamedRoutine.{NamedRoutine}
 use Rattle.il_text.specs.declared.statement.Statement.TheVariants as statement
 use Rattle.il_text.specs.Lines.{IsFitObject, IsFitLine, IsFitStatement}
-use Rattle.il_text.specs.Fronts.{header, block_lines, blocks_lines, open_lines, routine_lines, place_lines, inner_lines, lines_of, front_lines}
-use Rattle.il_text.specs.FitFronts.{IsFitRoutine, IsFitBlock, IsFitPlace, IsFitFront}
+use Rattle.il_text.specs.Fronts.{block_lines, blocks_lines, open_lines, routine_lines, place_lines, inner_lines, lines_of, front_lines}
+use Rattle.il_text.specs.FitFronts.{IsFitRoutine, IsFitPlace, IsFitFront}
 
 abbrev pub AreFit : List Line → Type 0
 AreFit ls = AllByRecursion IsFitLine ls

@@ -1,5 +1,5 @@
 -- A front with one more line has that line at the end of its lines, and fits where the line does.
-use Rattle.std.proofs.Common.{◌≡◌, ℕ, ◌+◌, ◌^◌, ◌<◌, ◌≤◌, List, [], ◌∷◌, ◌++◌, length, map, Option, Some, None, refl, sym, ◌∙◌, ap, subst, append-nil, append_assoc, length-append, arith, inl, inr, true, false}
+use Rattle.std.proofs.Common.{◌≡◌, ℕ, ◌+◌, ◌^◌, ◌<◌, ◌≤◌, List, [], ◌∷◌, ◌++◌, length, map, Option, Some, None, refl, sym, ◌∙◌, ap, subst, append-nil, append_assoc, length-append, arith, inl, inr}
 use Rattle.std.specs.Prelude.{flat_map, nat_lt, ◌==◌}
 use Rattle.std.specs.List.{AllByRecursion}
 use Rattle.std.proofs.lemmas.Bool.{cases_Bool, ltb-true, eqb-true}
@@ -22,7 +22,7 @@ use Rattle.il_text.specs.declared.line.NamedRoutine.{NamedRoutine}
 use Rattle.il_text.specs.declared.statement.Statement.{Statement}
 use Rattle.il_text.specs.declared.statement.Statement.TheVariants as statement
 use Rattle.il_text.specs.Lines.{IsFitObject, IsFitHeader, IsFitLine, IsFitStatement}
-use Rattle.il_text.specs.Fronts.{header, block_lines, blocks_lines, open_lines, routine_lines, place_lines, inner_lines, lines_of, front_lines, with_block, next, next_at, outside, in_routine, in_block, at_place}
+use Rattle.il_text.specs.Fronts.{header, block_lines, blocks_lines, open_lines, routine_lines, inner_lines, lines_of, front_lines, with_block, next, next_at, outside, in_routine, in_block, at_place}
 use Rattle.il_text.specs.FitFronts.{IsFitRoutine, IsFitBlock, IsFitPlace, IsRoomAt, IsFitFront}
 
 -- a front that fits, with one more line than these

@@ -1,19 +1,17 @@
 -- Lines by their first words, and routines by the parts of their first lines.
-use Rattle.std.proofs.Common.{◌≡◌, ℕ, ◌+◌, ◌^◌, ◌<◌, ◌≤◌, Bool, List, [], ◌∷◌, ◌++◌, Option, Some, refl, sym, sum, arith}
+use Rattle.std.proofs.Common.{◌≡◌, ℕ, ◌+◌, ◌^◌, ◌≤◌, Bool, List, [], ◌∷◌, ◌++◌, Some, refl, sum, arith}
 use Rattle.std.specs.Prelude.{codes}
 use Rattle.std.proofs.lemmas.List.Sums.{sum_by-append}
 use Rattle.il_core.specs.declared.instr.Block.{Block}
 use Rattle.il_core.specs.Ranges.{AreWords}
-use Rattle.il_core.specs.Routine.{RoutineParts}
 use Rattle.il_core.specs.Text.{block}
 use Rattle.il_text.specs.declared.line.Kind.{Kind}
 use Rattle.il_text.specs.declared.line.Kind.TheVariants as kind
 use Rattle.il_text.specs.declared.line.Line.{Line}
 use Rattle.il_text.specs.declared.line.Line.TheVariants.{First, Object, Routine, Label, Inside, Close, Done}
 use Rattle.il_text.specs.declared.line.NamedRoutine.{NamedRoutine}
-use Rattle.il_text.specs.Heads.{object_tail, routine_tail}
 use Rattle.il_text.specs.Kinds.{kind_text}
-use Rattle.il_text.specs.Lines.{line_words, statement_parts}
+use Rattle.il_text.specs.Lines.{line_words}
 
 pub words_of_sum : (ns : List ℕ) → sum ns ≤ 2 ^ 20 → AreWords ns
 words_of_sum [] h = tt

@@ -8,7 +8,6 @@ use Rattle.il_core.specs.declared.instr.Instr.{Instr}
 use Rattle.il_core.specs.declared.shape.ShapeRow.{ShapeRow}
 use Rattle.il_core.specs.declared.program.IlProgram.{IlProgram}
 use Rattle.il_core.specs.Object.{ObjectParts}
-use Rattle.il_core.specs.Routine.{RoutineParts}
 use Rattle.il_core.specs.Program.{name_at, name_of_row}
 use Rattle.il_core.specs.Text as text
 use Rattle.il_text.specs.declared.front.Place.TheVariants.{Done}
@@ -18,8 +17,8 @@ use Rattle.il_text.specs.declared.line.NamedObject.{NamedObject}
 use Rattle.il_text.specs.declared.line.NamedRoutine.{NamedRoutine}
 use Rattle.il_text.specs.declared.statement.Statement.{Statement}
 use Rattle.il_text.specs.declared.statement.Statement.TheVariants as statement
-use Rattle.il_text.specs.Assembled.{object_row, routine_row, all_rows, is_in_order, HasPartsOf}
-use Rattle.il_text.specs.Fronts.{header, block_lines, blocks_lines, open_lines, routine_lines, inner_lines, lines_of}
+use Rattle.il_text.specs.Assembled.{object_row, routine_row, HasPartsOf}
+use Rattle.il_text.specs.Fronts.{block_lines, blocks_lines, open_lines, routine_lines, inner_lines, lines_of}
 use Rattle.il_text.specs.Lines.{statement_parts}
 use Rattle.il_text.specs.Mnemonics.{mnemonic_text}
 use Rattle.il_text.specs.Parts.{dest_of, name_of, operands_of}

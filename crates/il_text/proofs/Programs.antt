@@ -1,6 +1,6 @@
 -- What was read and is in order, as a program.
-use Rattle.std.proofs.Common.{◌≡◌, ℕ, suc, ◌+◌, ◌^◌, ◌<◌, ◌≤◌, Bool, true, false, List, [], ◌∷◌, ◌++◌, Option, Some, None, length, map, refl, sym, ◌∙◌, ap, subst, length-append, arith, inl, inr}
-use Rattle.std.specs.Prelude.{Contains, codes, ◌&&◌, not, nat_lt, ◌==◌, ◌↔◌}
+use Rattle.std.proofs.Common.{◌≡◌, ℕ, suc, ◌^◌, ◌<◌, ◌≤◌, true, false, List, [], ◌∷◌, ◌++◌, Some, None, length, map, refl, sym, ◌∙◌, ap, subst, length-append, arith, inl, inr}
+use Rattle.std.specs.Prelude.{Contains, codes, ◌&&◌, not, nat_lt, ◌==◌}
 use Rattle.std.specs.List.{AllByRecursion, list_any}
 use Rattle.std.specs.List.Sorted.{IsPermutation}
 use Rattle.std.specs.Str.{bytes_eq}
@@ -14,17 +14,20 @@ use Rattle.il_core.specs.declared.program.IlProgram.{IlProgram}
 use Rattle.il_core.specs.Limits.{IsPid}
 use Rattle.il_core.specs.Object.{ObjectParts}
 use Rattle.il_core.specs.Routine.{RoutineParts}
-use Rattle.il_core.specs.Program.{found, shape_at, name_at, shape_of_row, name_of_row}
+use Rattle.il_core.specs.Program.{found, shape_at, shape_of_row}
 use Rattle.il_core.specs.Shapes.{IsRising, IsRisingFrom}
-use Rattle.il_core.specs.Valid.{HasShapesOf, IsValid, IsProgram}
+use Rattle.il_core.specs.Valid.{IsValid, IsProgram}
 use Rattle.il_check.proofs.RisingRows.{is_there}
 use Rattle.il_text.specs.declared.line.NamedObject.{NamedObject}
 use Rattle.il_text.specs.declared.line.NamedRoutine.{NamedRoutine}
 use Rattle.il_text.specs.Assembled.{object_row, routine_row, all_rows, is_in_order, HasPartsOf}
 use Rattle.il_text.specs.Checked.{is_main, is_main_shape}
-use Rattle.il_text.specs.FitFronts.{IsFitRoutine}
+use Rattle.il_text.specs.declared.front.Front.{Front}
+use Rattle.il_text.specs.declared.front.Place.{Place}
+use Rattle.il_text.specs.declared.front.Place.TheVariants.{Done}
+use Rattle.il_text.specs.FitFronts.{IsFitRoutine, IsFitFront, IsRoomAt}
 use Rattle.il_text.specs.Lines.{IsFitObject}
-use Rattle.il_text.specs.Order.{Item, object_items, routine_items, is_above, is_placed, has_pid, has_name, first_misplaced}
+use Rattle.il_text.specs.Order.{Item, object_items, routine_items, has_pid, has_name, first_misplaced}
 use Rattle.il_text.proofs.Counts.{placed_head, object_part, rows_names_once, each_moved, same_bytes}
 
 contains_head : (x : ShapeRow) (xs : List ShapeRow) → Contains (x ∷ xs) x
@@ -143,3 +146,9 @@ is_program os rs p a b few e h valid main =
       each = valid;
       main = main_found p.shapes main;
     }
+
+room_at : (p : Place) (os : List NamedObject) (rs : List NamedRoutine) → p ≡ Done → IsRoomAt p os rs → length rs ≤ 2 ^ 12
+room_at p os rs e h = subst (λ q. IsRoomAt q os rs) e h
+
+pub done_room : (f : Front) → IsFitFront f → f.place ≡ Done → length f.routines ≤ 2 ^ 12
+done_room f h e = room_at f.place f.objects f.routines e h.room

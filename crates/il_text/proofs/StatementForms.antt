@@ -1,15 +1,14 @@
 -- Statements by the register that gets their value, their names and their operands.
-use Rattle.std.proofs.Common.{◌≡◌, ◌≢◌, ℕ, ◌^◌, ◌<◌, ◌≤◌, Bool, true, false, List, [], ◌∷◌, Option, Some, None, refl, sym, ◌∙◌, ap, subst, arith, map, length}
+use Rattle.std.proofs.Common.{◌≡◌, ℕ, ◌^◌, ◌<◌, Bool, true, false, List, [], ◌∷◌, Option, Some, None, refl, sym, ◌∙◌, ap, subst, arith}
 use Rattle.std.specs.Prelude.{codes, ◌&&◌, nat_le, ◌==◌, option_to_list}
 use Rattle.std.specs.Fmt.{decimal}
-use Rattle.std.proofs.lemmas.Bool.{eq-eqb, le-leb, and_from, true≢false}
+use Rattle.std.proofs.lemmas.Bool.{le-leb, true≢false}
 use Rattle.std.proofs.lemmas.Fmt.{decimal_injective}
 use Rattle.hlo_num.specs.declared.word.Op.TheVariants as op
 use Rattle.il_core.specs.declared.instr.Instr.TheVariants as instr
 use Rattle.il_core.specs.declared.instr.End.TheVariants as ends
-use Rattle.il_core.specs.Limits.{IsPid}
 use Rattle.il_core.specs.Ranges.{AreWords}
-use Rattle.il_core.specs.Text.{reg, gets, gets_if_some}
+use Rattle.il_core.specs.Text.{reg, gets_if_some}
 use Rattle.il_text.specs.declared.mnemonic.Mnemonic.{Mnemonic}
 use Rattle.il_text.specs.declared.mnemonic.Mnemonic.TheVariants as name
 use Rattle.il_text.specs.declared.statement.Statement.{Statement}

@@ -1,9 +1,9 @@
 -- Where the words of a line begin and end.
-use Rattle.std.proofs.Common.{◌≡◌, ℕ, suc, ◌+◌, ◌-◌, ◌<◌, ◌≤◌, Bool, true, false, List, [], ◌∷◌, ◌++◌, length, take, drop, refl, sym, ◌∙◌, ap, inl, inr, ⊎_elim, add-one, arith, Option, Some, None}
-use Rattle.std.specs.Prelude.{◌==◌, IsTrue, ◌↔◌}
+use Rattle.std.proofs.Common.{◌≡◌, ℕ, suc, ◌+◌, ◌-◌, ◌<◌, ◌≤◌, List, [], ◌∷◌, length, take, drop, refl, inl, inr, add-one, arith}
+use Rattle.std.specs.Prelude.{◌==◌}
 use Rattle.std.proofs.lemmas.Bool.{cases_Bool}
 use Rattle.std.proofs.lemmas.List.{take_rest}
-use Rattle.il_text.specs.Words.{onto_first, words_of, words_in, first_len}
+use Rattle.il_text.specs.Words.{onto_first, words_of, first_len}
 
 pub first_len_le : (bs : List ℕ) → first_len bs ≤ length bs
 first_len_le [] = omega arith

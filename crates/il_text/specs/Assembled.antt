@@ -1,5 +1,5 @@
 -- The program of objects and routines with their names.
-use Rattle.std.specs.Prelude.{ℕ, ◌≡◌, List, [], ◌∷◌, ◌++◌, Option, Some, None, map}
+use Rattle.std.specs.Prelude.{ℕ, ◌≡◌, List, [], ◌++◌, Option, Some, None, map}
 use Rattle.std.specs.List.Sorted.{IsPermutation}
 use Rattle.il_core.specs.declared.shape.ShapeRow.{ShapeRow}
 use Rattle.il_core.specs.declared.shape.Shape.TheVariants as shape

@@ -1,5 +1,5 @@
 -- The lines of objects and the first lines of routines, behind their first word.
-use Rattle.std.specs.Prelude.{ℕ, ◌≡◌, ◌<◌, ◌≤◌, ◌^◌, Bool, List, ◌∷◌, Option, codes, Some, None}
+use Rattle.std.specs.Prelude.{ℕ, ◌≡◌, ◌<◌, ◌≤◌, ◌^◌, List, ◌∷◌, Option, codes, Some, None}
 use Rattle.std.specs.Fmt.{decimal}
 use Rattle.hlo_num.specs.Name.{IsName}
 use Rattle.il_core.specs.Limits.{IsPid}

@@ -16,3 +16,4 @@ pub mod Order
 pub mod Known
 pub mod Assembled
 pub mod Checked
+pub mod ReadFaults

@@ -1,5 +1,5 @@
 -- The lines of a text, each as its words: what stands between its spaces. A line inside a block begins with two empty words.
-use Rattle.std.specs.Prelude.{ℕ, ◌≡◌, ◌++◌, ◌<◌, ◌≤◌, List, [], ◌∷◌, codes, ⊤}
+use Rattle.std.specs.Prelude.{ℕ, ◌≡◌, ◌++◌, ◌<◌, List, [], ◌∷◌, codes, ⊤}
 use Rattle.hlo_num.specs.Name.{IsName}
 use Rattle.hlo_num.specs.Words.{IsWord}
 use Rattle.il_core.specs.Limits.{IsPid, IsInstr, IsWithinLimits}

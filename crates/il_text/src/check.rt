@@ -15,7 +15,7 @@ pub(crate) struct Flawed {
 }
 
 /// How many lines a routine has.
-fn line_count(routine: &Routine) -> u64
+pub(crate) fn line_count(routine: &Routine) -> u64
     ensures lines { result ≡ line_count routine.now }
     ensures bound { result ≤ 2 ^ 18 }
 {

@@ -15,6 +15,7 @@ mod numbers;
 mod operands;
 mod order;
 mod program;
+mod read;
 mod reading;
 mod routine;
 mod statement;
@@ -22,4 +23,5 @@ mod words;
 
 pub use fault::{IlFault, IlKind};
 pub use head::write_head;
+pub use read::read_il;
 pub use routine::write_routine;

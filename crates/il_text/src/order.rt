@@ -1,5 +1,5 @@
 //! Whether objects and routines are in order.
-ghost use Rattle.std.specs.Prelude.{◌≡◌, ◌++◌, ◌∷◌, [], not, ◌&&◌, IfOk, OnOk, List, None};
+ghost use Rattle.std.specs.Prelude.{◌≡◌, ◌++◌, ◌∷◌, [], not, ◌&&◌, IfOk, OnOk, List, None, IfSome, ◌<◌, length};
 ghost use Rattle.il_text.specs.Order.{Item, first_misplaced, has_name, has_pid, is_above, object_items, routine_items};
 ghost use Rattle.il_text.specs.Known.{Knows};
 
@@ -49,6 +49,7 @@ pub(crate) fn misplaced_object<'a>(
 ) -> Result<Option<usize>, AllocError>
     ensures first { (items : List Item) → Knows used.old items → IfOk result (λ o. o ≡ first_misplaced items None (object_items objects.now)) }
     ensures known { (items : List Item) → Knows used.old items → IfOk result (λ o. o ≡ None → Knows used.new (items ++ object_items objects.now)) }
+    ensures within { IfOk result (λ o. IfSome o (λ k. k < length objects.now)) }
 {
     let mut before = None;
     for (k, named) in objects.iter().enumerate() {
@@ -69,6 +70,7 @@ pub(crate) fn misplaced_routine<'a>(
 ) -> Result<Option<usize>, AllocError>
     ensures first { (items : List Item) → Knows used.old items → IfOk result (λ o. o ≡ first_misplaced items None (routine_items routines.now)) }
     ensures known { (items : List Item) → Knows used.old items → IfOk result (λ o. o ≡ None → Knows used.new (items ++ routine_items routines.now)) }
+    ensures within { IfOk result (λ o. IfSome o (λ k. k < length routines.now)) }
 {
     let mut before = None;
     for (k, named) in routines.iter().enumerate() {

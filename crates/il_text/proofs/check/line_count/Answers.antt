@@ -1,5 +1,5 @@
 use Rattle.std.proofs.Common.{◌≡◌, ◌≤◌, length, arith}
-use Rattle.il_core.specs.Size.{blocks_size, size}
+use Rattle.il_core.specs.Size.{blocks_size}
 use Rattle.il_text.proofs.FitLines.{blocks_few}
 use Rattle.il_text.proofs.check.line_count.Goals as goal
 

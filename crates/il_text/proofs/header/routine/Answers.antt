@@ -1,4 +1,4 @@
-use Rattle.std.proofs.Common.{◌≡◌, None, Some, sym, ◌∙◌}
+use Rattle.std.proofs.Common.{sym, ◌∙◌}
 use Rattle.il_core.specs.Text.{arrays_parts}
 use Rattle.il_text.proofs.LineForms.{routine_told, words_of_sum}
 use Rattle.il_text.proofs.header.routine.Goals as goal

@@ -1,5 +1,4 @@
-use Rattle.std.proofs.Common.{◌≡◌, List, ℕ, ◌∷◌, ap, sym, subst, ◌∙◌, None, Some}
-use Rattle.il_text.specs.declared.line.Line.{Line}
+use Rattle.std.proofs.Common.{ap, sym, subst, ◌∙◌, Some}
 use Rattle.il_text.specs.Lines.{IsFitLine}
 use Rattle.il_text.specs.Words.{words_left}
 use Rattle.il_text.proofs.LineForms.{no_kind}

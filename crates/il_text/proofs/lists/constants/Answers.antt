@@ -1,7 +1,6 @@
-use Rattle.std.proofs.Common.{ap, sym, Some, arith, ◌∙◌}
+use Rattle.std.proofs.Common.{ap, Some, arith}
 use Rattle.hlo_num.specs.declared.word.Word.{Word}
 use Rattle.hlo_num.specs.Words.{IsWord}
-use Rattle.il_core.specs.Object.{ends_with_zero}
 use Rattle.il_core.specs.Text.{word}
 use Rattle.il_text.specs.Words.{words_left}
 use Rattle.il_text.proofs.ReadLists.{no_list, one_more, only_these, length_push, last_push}

@@ -1,4 +1,4 @@
-use Rattle.std.proofs.Common.{sym, ◌∙◌, ap}
+use Rattle.std.proofs.Common.{◌∙◌, ap}
 use Rattle.il_text.specs.Mnemonics.{mnemonic_named}
 use Rattle.il_text.proofs.NamedThings.{text_named, told_has}
 use Rattle.il_text.proofs.mnemonic.mnemonic_of.Goals as goal

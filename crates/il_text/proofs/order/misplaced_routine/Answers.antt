@@ -1,4 +1,4 @@
-use Rattle.std.proofs.Common.{◌≡◌, ◌+◌, ◌++◌, ◌∷◌, [], List, ℕ, Option, Some, Bool, map, take, arith, ap, sym, subst, ◌∙◌}
+use Rattle.std.proofs.Common.{◌+◌, ◌++◌, ◌∷◌, [], List, ℕ, Some, map, take, arith, ap, sym, subst, ◌∙◌}
 use Rattle.std.specs.Prelude.{not, ◌&&◌}
 use Rattle.il_text.specs.Known.{Knows}
 use Rattle.il_text.specs.Order.{Item, routine_item, has_pid, has_name, is_above}

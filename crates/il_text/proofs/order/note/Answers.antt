@@ -1,4 +1,3 @@
-use Rattle.std.proofs.Common.{sym, ◌∙◌}
 use Rattle.il_text.proofs.KnownItems.{pid_noted, name_noted}
 use Rattle.il_text.proofs.order.note.Goals as goal
 

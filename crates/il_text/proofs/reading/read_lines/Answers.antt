@@ -1,5 +1,4 @@
-use Rattle.std.proofs.Common.{◌≡◌, length, sym, ap, ◌∙◌, [], List, ℕ, arith}
-use Rattle.std.specs.Prelude.{◌==◌}
+use Rattle.std.proofs.Common.{sym, ◌∙◌}
 use Rattle.std.proofs.lemmas.Result.{err_from_is_err_and}
 use Rattle.il_text.proofs.NextLines.{bad_next, no_more_lines, not_nothing}
 use Rattle.il_text.proofs.reading.read_lines.Goals.{else-is_empty-via-then-is_empty+else-is_done, else-is_empty-via-else-is_empty}

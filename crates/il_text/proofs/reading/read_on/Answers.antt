@@ -1,5 +1,4 @@
-use Rattle.std.proofs.Common.{◌≡◌, Some, None, refl, sym, ◌∙◌}
-use Rattle.il_text.specs.declared.line.Line.{Line}
+use Rattle.std.proofs.Common.{◌≡◌, Some, refl, sym, ◌∙◌}
 use Rattle.il_text.proofs.NextLines.{no_words, no_step, one_step}
 use Rattle.il_text.proofs.reading.read_on.Goals as goal
 

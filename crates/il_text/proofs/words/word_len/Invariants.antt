@@ -1,4 +1,4 @@
-use Rattle.std.proofs.Common.{◌≡◌, ◌+◌, ◌≤◌, drop}
+use Rattle.std.proofs.Common.{◌≡◌, ◌+◌, drop}
 use Rattle.il_text.specs.Words.{first_len}
 use Rattle.il_text.proofs.words.word_len.Given as goal
 
