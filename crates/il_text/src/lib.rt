@@ -1,4 +1,4 @@
-//! The text of IL: its head, its routines.
+//! The text of IL, both ways: its head and its routines are written, and a whole text is read.
 #![tactic(auto)]
 
 mod check;
@@ -25,3 +25,6 @@ pub use fault::{IlFault, IlKind};
 pub use head::write_head;
 pub use read::read_il;
 pub use routine::write_routine;
+
+#[cfg(test)]
+mod tests;
