@@ -9,9 +9,10 @@ use Rattle.std.proofs.Common.{arith, zero, suc}
 use Rattle.std.proofs.lemmas.Bool.Decides.{nat_tests}
 use Rattle.std.proofs.lemmas.Str.{IsUtf8-from_ascii}
 use Rattle.hlo_num.specs.Name.{IsName, is_name_byte}
-use Rattle.il_core.specs.Text.{indented, line, gets_if_some, reg, routine_parts, arrays_parts, value_name}
+use Rattle.il_core.specs.Text.{indented, line, gets_if_some, reg, routine_parts, arrays_parts, value_name, object_parts, init_parts}
+use Rattle.il_core.specs.Object.{ObjectParts}
 use Rattle.il_core.specs.Routine.{RoutineParts}
-use Rattle.il_text.specs.Spaced.{spaced, call_head, routine_head}
+use Rattle.il_text.specs.Spaced.{spaced, call_head, routine_head, object_head}
 
 -- parts behind the first have a space before them
 pub joined : (p : List ℕ) (ps : List (List ℕ)) → join_with_byte 32 (p ∷ ps) ≡ p ++ spaced ps
@@ -41,6 +42,14 @@ pub routine_line : (name : List ℕ) (r : RoutineParts) (old head mid new : List
 routine_line name r old head mid new e f g =
     g ∙ ap (λ l. l ++ 10 ∷ []) (f ∙ ap (λ l. l ++ spaced (arrays_parts r.arrays)) e ∙ append_assoc old (routine_head name r) (spaced (arrays_parts r.arrays)))
     ∙ append_assoc old (routine_head name r ++ spaced (arrays_parts r.arrays)) (10 ∷ []) ∙ ap (λ l. old ++ l) (sym (routine_line_parts name r))
+
+object_line_parts : (name : List ℕ) (o : ObjectParts) → line (object_parts name o) ≡ (object_head name o ++ spaced (init_parts o.init)) ++ 10 ∷ []
+object_line_parts name o = ap (λ l. l ++ 10 ∷ []) (joined_more (codes "object") (decimal o.pid ∷ name ∷ decimal o.words ∷ []) (init_parts o.init))
+
+pub object_line : (name : List ℕ) (o : ObjectParts) (old head mid new : List ℕ) → head ≡ old ++ object_head name o → mid ≡ head ++ spaced (init_parts o.init) → new ≡ mid ++ 10 ∷ [] → new ≡ old ++ line (object_parts name o)
+object_line name o old head mid new e f g =
+    g ∙ ap (λ l. l ++ 10 ∷ []) (f ∙ ap (λ l. l ++ spaced (init_parts o.init)) e ∙ append_assoc old (object_head name o) (spaced (init_parts o.init)))
+    ∙ append_assoc old (object_head name o ++ spaced (init_parts o.init)) (10 ∷ []) ∙ ap (λ l. old ++ l) (sym (object_line_parts name o))
 
 first_true : (p q : Bool) → (p && q) ≡ true → p ≡ true
 first_true true q h = refl

@@ -94,14 +94,14 @@ pub(crate) fn write_end(out: &mut String, end: &End) -> Result<(), AllocError>
 }
 
 /// A word read as signed.
-fn signed_of(word: Word) -> i32
+pub(crate) fn signed_of(word: Word) -> i32
     ensures { result ≡ signed word.0 }
 {
     word.0.cast_signed()
 }
 
 /// An operator's name.
-fn name_of_op(op: Op) -> &'static str
+pub(crate) fn name_of_op(op: Op) -> &'static str
     ensures { result.now ≡ op_name op }
 {
     match op {

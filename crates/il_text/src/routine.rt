@@ -59,7 +59,7 @@ fn write_head_of(out: &mut String, routine: &Routine, name: &Name) -> Result<(),
 }
 
 /// A name as text.
-fn text_of(name: &Name) -> &str
+pub(crate) fn text_of(name: &Name) -> &str
     ensures { result.now ≡ name.now }
 {
     match str::from_utf8(name.bytes()) {

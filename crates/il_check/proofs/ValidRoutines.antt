@@ -1,0 +1,213 @@
+-- All conditions are met exactly where a routine is valid.
+use Rattle.std.proofs.Common.{◌≡◌, ℕ, ◌+◌, ◌<◌, ◌≤◌, Bool, true, false, List, [], ◌∷◌, ◌++◌, Option, Some, None, refl, sym, ap, length, ◌&&◌, not, ◌∙◌, arith}
+use Rattle.std.specs.Prelude.{flat_map, option_to_list, nat_lt, nat_eq, is_some, IsNone, ◌↔◌, ◌==◌}
+use Rattle.std.specs.List.{AllByRecursion}
+use Rattle.std.specs.Bool.{beq}
+use Rattle.std.proofs.lemmas.Bool.{ltb-true, leb-true, eqb-true, lt-ltb, le-leb, eq-eqb, eqb-false, and_parts, and_from}
+use Rattle.il_core.specs.declared.instr.Block.{Block}
+use Rattle.il_core.specs.declared.instr.Instr.{Instr}
+use Rattle.il_core.specs.declared.instr.Instr.TheVariants.{Const, Move, Conv, Bin, Get, Set, GetX, SetX, GetA, SetA, Clear, Turn, Call, GetChar, PutChar}
+use Rattle.il_core.specs.declared.instr.End.{End}
+use Rattle.il_core.specs.declared.instr.End.TheVariants as ends
+use Rattle.il_core.specs.declared.shape.ShapeRow.{ShapeRow}
+use Rattle.il_core.specs.declared.shape.Shape.{Shape}
+use Rattle.il_core.specs.declared.shape.Shape.TheVariants as shape
+use Rattle.il_core.specs.Routine.{RoutineParts}
+use Rattle.il_core.specs.Program.{shape_at}
+use Rattle.il_core.specs.Valid.{IsObjectShape, IsRoutineShape, is_wanted, IsRegIfSome, IsValidInstr, IsValidEnd, AreValidBlocks, IsValid}
+use Rattle.il_check.specs.declared.flaw.Flaw.{Flaw}
+use Rattle.il_check.specs.declared.flaw.Flaw.TheVariants.{Params, Register, Array, Object, Callee, Arguments, Result, Target, ReturnKind}
+use Rattle.il_check.specs.Conditions.{first_broken, exist, is_object, is_routine, params_of, gives_value, callee_conditions, instr_conditions, end_conditions, is_later, blocks_conditions, conditions}
+use Rattle.il_check.proofs.MetConditions.{front_met, rest_met, both_met, head_met, cons_met, one_met, two_met, one_meets, two_meet}
+
+-- two registers, three registers
+two_less : (a b n : ℕ) → (nat_lt a n && nat_lt b n) ≡ true → (a < n) × (b < n)
+two_less a b n h = let r = and_parts (nat_lt a n) (nat_lt b n) h in (ltb-true a n r.0, ltb-true b n r.1)
+
+less_two : (a b n : ℕ) → a < n → b < n → (nat_lt a n && nat_lt b n) ≡ true
+less_two a b n h k = and_from (nat_lt a n) (nat_lt b n) (lt-ltb a n h) (lt-ltb b n k)
+
+object_shape : (s : Option Shape) → is_object s ≡ true → IsObjectShape s
+object_shape None h = absurd cc
+object_shape (Some (shape.Object words)) h = tt
+object_shape (Some (shape.Routine params value)) h = absurd cc
+
+shape_object : (s : Option Shape) → IsObjectShape s → is_object s ≡ true
+shape_object None h = absurd h
+shape_object (Some (shape.Object words)) h = refl
+shape_object (Some (shape.Routine params value)) h = absurd h
+
+same_bool : (a b : Bool) → beq a b ≡ true → a ≡ b
+same_bool true true h = refl
+same_bool true false h = absurd cc
+same_bool false true h = absurd cc
+same_bool false false h = refl
+
+bool_same : (a b : Bool) → a ≡ b → beq a b ≡ true
+bool_same true true h = refl
+bool_same true false h = absurd cc
+bool_same false true h = absurd cc
+bool_same false false h = refl
+
+routine_shape : (s : Option Shape) (count : ℕ) (wanted : Bool) → is_routine s ≡ true → params_of s ≡ count → gives_value s ≡ wanted → IsRoutineShape s count wanted
+routine_shape None count wanted h p v = absurd cc
+routine_shape (Some (shape.Object words)) count wanted h p v = absurd cc
+routine_shape (Some (shape.Routine params value)) count wanted h p v = (p, v)
+
+shape_routine : (s : Option Shape) (count : ℕ) (wanted : Bool) → IsRoutineShape s count wanted → (is_routine s ≡ true) × (params_of s ≡ count) × (gives_value s ≡ wanted)
+shape_routine None count wanted h = absurd h
+shape_routine (Some (shape.Object words)) count wanted h = absurd h
+shape_routine (Some (shape.Routine params value)) count wanted h = (refl, h.0, h.1)
+
+all_less : (n : ℕ) (xs : List ℕ) → exist n xs ≡ true → AllByRecursion (λ x. x < n) xs
+all_less n [] h = tt
+all_less n (x ∷ xs) h = let r = and_parts (nat_lt x n) (exist n xs) h in (ltb-true x n r.0, all_less n xs r.1)
+
+less_all : (n : ℕ) (xs : List ℕ) → AllByRecursion (λ x. x < n) xs → exist n xs ≡ true
+less_all n [] h = refl
+less_all n (x ∷ xs) h = and_from (nat_lt x n) (exist n xs) (lt-ltb x n h.0) (less_all n xs h.1)
+
+dest_less : (n : ℕ) (d : Option ℕ) → exist n (option_to_list d) ≡ true → IsRegIfSome n d
+dest_less n None h = tt
+dest_less n (Some d) h = (all_less n (d ∷ []) h).0
+
+less_dest : (n : ℕ) (d : Option ℕ) → IsRegIfSome n d → exist n (option_to_list d) ≡ true
+less_dest n None h = refl
+less_dest n (Some d) h = less_all n (d ∷ []) (h, tt)
+
+wanted_some : (d : Option ℕ) → is_some d ≡ is_wanted d
+wanted_some None = refl
+wanted_some (Some d) = refl
+
+abbrev Ok : List ShapeRow → ℕ → ℕ → Instr → Type 0
+Ok rows regs arrays i = first_broken (instr_conditions rows regs arrays i) ≡ None
+
+callee_valid : (s : Option Shape) (count : ℕ) (dest : Option ℕ) → first_broken (callee_conditions s count (is_some dest)) ≡ None → IsRoutineShape s count (is_wanted dest)
+callee_valid s count dest h =
+    let a = head_met (is_routine s) Callee ((nat_eq (params_of s) count, Arguments) ∷ (beq (gives_value s) (is_some dest), Result) ∷ []) h in
+    let b = two_met (nat_eq (params_of s) count) (beq (gives_value s) (is_some dest)) Arguments Result a.1 in
+    routine_shape s count (is_wanted dest) a.0 (eqb-true (params_of s) count b.0) (same_bool (gives_value s) (is_some dest) b.1 ∙ wanted_some dest)
+
+valid_callee : (s : Option Shape) (count : ℕ) (dest : Option ℕ) → IsRoutineShape s count (is_wanted dest) → first_broken (callee_conditions s count (is_some dest)) ≡ None
+valid_callee s count dest h =
+    let r = shape_routine s count (is_wanted dest) h in
+    cons_met (is_routine s) Callee ((nat_eq (params_of s) count, Arguments) ∷ (beq (gives_value s) (is_some dest), Result) ∷ []) r.0
+    (two_meet (nat_eq (params_of s) count) (beq (gives_value s) (is_some dest)) Arguments Result (eq-eqb (params_of s) count r.1) (bool_same (gives_value s) (is_some dest) (r.2 ∙ sym (wanted_some dest))))
+
+call_valid : (rows : List ShapeRow) (regs : ℕ) (arrays : ℕ) (dest : Option ℕ) (p count : ℕ) (args : List ℕ) → Ok rows regs arrays (Call dest p count args) → IsValidInstr rows regs arrays (Call dest p count args)
+call_valid rows regs arrays dest p count args h =
+    let a = head_met (exist regs (option_to_list dest) && exist regs args) Register (callee_conditions (shape_at rows p) (length args) (is_some dest)) h in
+    let r = and_parts (exist regs (option_to_list dest)) (exist regs args) a.0 in
+    (dest_less regs dest r.0, all_less regs args r.1, callee_valid (shape_at rows p) (length args) dest a.1)
+
+valid_call : (rows : List ShapeRow) (regs : ℕ) (arrays : ℕ) (dest : Option ℕ) (p count : ℕ) (args : List ℕ) → IsValidInstr rows regs arrays (Call dest p count args) → Ok rows regs arrays (Call dest p count args)
+valid_call rows regs arrays dest p count args h =
+    cons_met (exist regs (option_to_list dest) && exist regs args) Register (callee_conditions (shape_at rows p) (length args) (is_some dest)) (and_from (exist regs (option_to_list dest)) (exist regs args) (less_dest regs dest h.0) (less_all regs args h.1))
+    (valid_callee (shape_at rows p) (length args) dest h.2)
+
+instr_valid : (rows : List ShapeRow) (regs arrays : ℕ) (i : Instr) → Ok rows regs arrays i → IsValidInstr rows regs arrays i
+instr_valid rows regs arrays (Const d w) h = ltb-true d regs (one_met _ Register h)
+instr_valid rows regs arrays (Move d s) h = two_less d s regs (one_met _ Register h)
+instr_valid rows regs arrays (Conv d t s) h = two_less d s regs (one_met _ Register h)
+instr_valid rows regs arrays (Bin o d a b) h = let r = and_parts (nat_lt d regs) (nat_lt a regs && nat_lt b regs) (one_met _ Register h) in let s = two_less a b regs r.1 in (ltb-true d regs r.0, s.0, s.1)
+instr_valid rows regs arrays (Get d g) h = let r = two_met (nat_lt d regs) (is_object (shape_at rows g)) Register Object h in (ltb-true d regs r.0, object_shape (shape_at rows g) r.1)
+instr_valid rows regs arrays (Set g s) h = let r = two_met (nat_lt s regs) (is_object (shape_at rows g)) Register Object h in (ltb-true s regs r.0, object_shape (shape_at rows g) r.1)
+instr_valid rows regs arrays (GetX d g i) h = let r = two_met (nat_lt d regs && nat_lt i regs) (is_object (shape_at rows g)) Register Object h in let s = two_less d i regs r.0 in (s.0, s.1, object_shape (shape_at rows g) r.1)
+instr_valid rows regs arrays (SetX g i s) h = let r = two_met (nat_lt i regs && nat_lt s regs) (is_object (shape_at rows g)) Register Object h in let t = two_less i s regs r.0 in (t.0, t.1, object_shape (shape_at rows g) r.1)
+instr_valid rows regs arrays (GetA d a i) h = let r = two_met (nat_lt d regs && nat_lt i regs) (nat_lt a arrays) Register Array h in let s = two_less d i regs r.0 in (s.0, s.1, ltb-true a arrays r.1)
+instr_valid rows regs arrays (SetA a i s) h = let r = two_met (nat_lt i regs && nat_lt s regs) (nat_lt a arrays) Register Array h in let t = two_less i s regs r.0 in (t.0, t.1, ltb-true a arrays r.1)
+instr_valid rows regs arrays (Clear r c a m) h = let t = two_met _ _ Register Array h in (leb-true (r + c) regs t.0, leb-true (a + m) arrays t.1)
+instr_valid rows regs arrays Turn h = tt
+instr_valid rows regs arrays (Call dest p count args) h = call_valid rows regs arrays dest p count args h
+instr_valid rows regs arrays (GetChar d) h = ltb-true d regs (one_met _ Register h)
+instr_valid rows regs arrays (PutChar d s) h = two_less d s regs (one_met _ Register h)
+
+valid_instr : (rows : List ShapeRow) (regs arrays : ℕ) (i : Instr) → IsValidInstr rows regs arrays i → Ok rows regs arrays i
+valid_instr rows regs arrays (Const d w) h = one_meets _ Register (lt-ltb d regs h)
+valid_instr rows regs arrays (Move d s) h = one_meets _ Register (less_two d s regs h.0 h.1)
+valid_instr rows regs arrays (Conv d t s) h = one_meets _ Register (less_two d s regs h.0 h.1)
+valid_instr rows regs arrays (Bin o d a b) h = one_meets _ Register (and_from (nat_lt d regs) (nat_lt a regs && nat_lt b regs) (lt-ltb d regs h.0) (less_two a b regs h.1 h.2))
+valid_instr rows regs arrays (Get d g) h = two_meet _ _ Register Object (lt-ltb d regs h.0) (shape_object (shape_at rows g) h.1)
+valid_instr rows regs arrays (Set g s) h = two_meet _ _ Register Object (lt-ltb s regs h.0) (shape_object (shape_at rows g) h.1)
+valid_instr rows regs arrays (GetX d g i) h = two_meet _ _ Register Object (less_two d i regs h.0 h.1) (shape_object (shape_at rows g) h.2)
+valid_instr rows regs arrays (SetX g i s) h = two_meet _ _ Register Object (less_two i s regs h.0 h.1) (shape_object (shape_at rows g) h.2)
+valid_instr rows regs arrays (GetA d a i) h = two_meet _ _ Register Array (less_two d i regs h.0 h.1) (lt-ltb a arrays h.2)
+valid_instr rows regs arrays (SetA a i s) h = two_meet _ _ Register Array (less_two i s regs h.0 h.1) (lt-ltb a arrays h.2)
+valid_instr rows regs arrays (Clear r c a m) h = two_meet _ _ Register Array (le-leb (r + c) regs h.0) (le-leb (a + m) arrays h.1)
+valid_instr rows regs arrays Turn h = refl
+valid_instr rows regs arrays (Call dest p count args) h = valid_call rows regs arrays dest p count args h
+valid_instr rows regs arrays (GetChar d) h = one_meets _ Register (lt-ltb d regs h)
+valid_instr rows regs arrays (PutChar d s) h = one_meets _ Register (less_two d s regs h.0 h.1)
+
+instrs_valid : (rows : List ShapeRow) (regs arrays : ℕ) (is : List Instr) → first_broken (flat_map (λ i. instr_conditions rows regs arrays i) is) ≡ None → AllByRecursion (IsValidInstr rows regs arrays) is
+instrs_valid rows regs arrays [] h = tt
+instrs_valid rows regs arrays (i ∷ is) h = (instr_valid rows regs arrays i (front_met (instr_conditions rows regs arrays i) _ h), instrs_valid rows regs arrays is (rest_met (instr_conditions rows regs arrays i) _ h))
+
+valid_instrs : (rows : List ShapeRow) (regs arrays : ℕ) (is : List Instr) → AllByRecursion (IsValidInstr rows regs arrays) is → first_broken (flat_map (λ i. instr_conditions rows regs arrays i) is) ≡ None
+valid_instrs rows regs arrays [] h = refl
+valid_instrs rows regs arrays (i ∷ is) h = both_met (instr_conditions rows regs arrays i) _ (valid_instr rows regs arrays i h.0) (valid_instrs rows regs arrays is h.1)
+
+later : (blocks b t : ℕ) → is_later blocks b t ≡ true → (b < t) × (t < blocks)
+later blocks b t h = let r = and_parts (nat_lt b t) (nat_lt t blocks) h in (ltb-true b t r.0, ltb-true t blocks r.1)
+
+later_is : (blocks b t : ℕ) → (b < t) × (t < blocks) → is_later blocks b t ≡ true
+later_is blocks b t h = and_from (nat_lt b t) (nat_lt t blocks) (lt-ltb b t h.0) (lt-ltb t blocks h.1)
+
+not_value : (v : Bool) → not v ≡ true → v ≡ false
+not_value true h = absurd cc
+not_value false h = refl
+
+end_valid : (regs : ℕ) (value : Bool) (blocks b : ℕ) (e : End) → first_broken (end_conditions regs value blocks b e) ≡ None → IsValidEnd regs value blocks b e
+end_valid regs value blocks b (ends.Jump t) h = later blocks b t (one_met _ Target h)
+end_valid regs value blocks b (ends.Branch r t u) h = let s = two_met (nat_lt r regs) (is_later blocks b t && is_later blocks b u) Register Target h in let k = and_parts (is_later blocks b t) (is_later blocks b u) s.1 in (ltb-true r regs s.0, later blocks b t k.0, later blocks b u k.1)
+end_valid regs value blocks b (ends.Loop t) h = leb-true t b (one_met _ Target h)
+end_valid regs value blocks b (ends.Return None) h = (tt, not_value value (one_met _ ReturnKind h))
+end_valid regs value blocks b (ends.Return (Some r)) h = let s = two_met (nat_lt r regs) value Register ReturnKind h in (ltb-true r regs s.0, s.1)
+end_valid regs value blocks b (ends.Exit r) h = ltb-true r regs (one_met _ Register h)
+
+valid_end : (regs : ℕ) (value : Bool) (blocks b : ℕ) (e : End) → IsValidEnd regs value blocks b e → first_broken (end_conditions regs value blocks b e) ≡ None
+valid_end regs value blocks b (ends.Jump t) h = one_meets _ Target (later_is blocks b t h)
+valid_end regs value blocks b (ends.Branch r t u) h = two_meet _ _ Register Target (lt-ltb r regs h.0) (and_from (is_later blocks b t) (is_later blocks b u) (later_is blocks b t h.1) (later_is blocks b u h.2))
+valid_end regs value blocks b (ends.Loop t) h = one_meets _ Target (le-leb t b h)
+valid_end regs value blocks b (ends.Return None) h = one_meets _ ReturnKind (ap not h.1)
+valid_end regs value blocks b (ends.Return (Some r)) h = two_meet _ _ Register ReturnKind (lt-ltb r regs h.0) h.1
+valid_end regs value blocks b (ends.Exit r) h = one_meets _ Register (lt-ltb r regs h)
+
+blocks_valid : (rows : List ShapeRow) (r : RoutineParts) (b : ℕ) (xs : List Block) → first_broken (blocks_conditions rows r b xs) ≡ None → AreValidBlocks rows r b xs
+blocks_valid rows r b [] h = tt
+blocks_valid rows r b (x ∷ xs) h =
+    let is : List _ = flat_map (λ i. instr_conditions rows r.regs (length r.arrays) i) x.instrs in
+    let e : List _ = end_conditions r.regs r.value (length r.blocks) b x.end in
+    let k = front_met (is ++ e) (blocks_conditions rows r (b + 1) xs) h in
+    (instrs_valid rows r.regs (length r.arrays) x.instrs (front_met is e k), end_valid r.regs r.value (length r.blocks) b x.end (rest_met is e k), blocks_valid rows r (b + 1) xs (rest_met (is ++ e) (blocks_conditions rows r (b + 1) xs) h))
+
+valid_blocks : (rows : List ShapeRow) (r : RoutineParts) (b : ℕ) (xs : List Block) → AreValidBlocks rows r b xs → first_broken (blocks_conditions rows r b xs) ≡ None
+valid_blocks rows r b [] h = refl
+valid_blocks rows r b (x ∷ xs) h =
+    both_met (flat_map (λ i. instr_conditions rows r.regs (length r.arrays) i) x.instrs ++ end_conditions r.regs r.value (length r.blocks) b x.end) (blocks_conditions rows r (b + 1) xs)
+    (both_met (flat_map (λ i. instr_conditions rows r.regs (length r.arrays) i) x.instrs) (end_conditions r.regs r.value (length r.blocks) b x.end) (valid_instrs rows r.regs (length r.arrays) x.instrs h.0) (valid_end r.regs r.value (length r.blocks) b x.end h.1))
+    (valid_blocks rows r (b + 1) xs h.2)
+
+met_is_valid : (rows : List ShapeRow) (r : RoutineParts) → first_broken (conditions rows r) ≡ None → IsValid rows r
+met_is_valid rows r h =
+    let p = head_met _ Params ((nat_lt 0 (length r.blocks), Target) ∷ blocks_conditions rows r 0 r.blocks) h in
+    let t = head_met _ Target (blocks_conditions rows r 0 r.blocks) p.1 in
+    record { params = leb-true r.params r.regs p.0; some_block = ltb-true 0 (length r.blocks) t.0; blocks = blocks_valid rows r 0 r.blocks t.1 }
+
+valid_is_met : (rows : List ShapeRow) (r : RoutineParts) → IsValid rows r → first_broken (conditions rows r) ≡ None
+valid_is_met rows r h = cons_met _ Params ((nat_lt 0 (length r.blocks), Target) ∷ blocks_conditions rows r 0 r.blocks) (le-leb r.params r.regs h.params) (cons_met _ Target (blocks_conditions rows r 0 r.blocks) (lt-ltb 0 (length r.blocks) h.some_block) (valid_blocks rows r 0 r.blocks h.blocks))
+
+is_none : {X : Type 0} (o : Option X) → IsNone o → o ≡ None
+is_none None h = refl
+is_none (Some x) h = absurd cc
+
+none_is : {X : Type 0} (o : Option X) → o ≡ None → IsNone o
+none_is None h = refl
+none_is (Some x) h = absurd cc
+
+pub tells_valid : (rows : List ShapeRow) (r : RoutineParts) (o : Option Flaw) → o ≡ first_broken (conditions rows r) → IsNone o ↔ IsValid rows r
+tells_valid rows r o e = ((λ h. met_is_valid rows r (sym e ∙ is_none o h)), (λ h. none_is o (e ∙ valid_is_met rows r h)))
+
+-- with registers for the parameters and a block, what is left are the blocks
+pub past_start : (rows : List ShapeRow) (r : RoutineParts) → r.params ≤ r.regs → (length r.blocks == 0) ≡ false → first_broken (conditions rows r) ≡ first_broken (blocks_conditions rows r 0 r.blocks)
+past_start rows r le some = rw (le-leb r.params r.regs le, lt-ltb 0 (length r.blocks) (omega (arith, eqb-false (length r.blocks) 0 some))) refl

@@ -1,0 +1,98 @@
+-- What follows a front.
+use Rattle.std.proofs.Common.{◌≡◌, ℕ, ◌+◌, ◌-◌, ◌^◌, min, List, [], ◌∷◌, ◌++◌, length, Some, None, sym, ◌∙◌, ap, subst, append-nil, append_assoc, length-append, arith, false}
+use Rattle.std.specs.Prelude.{◌==◌}
+use Rattle.std.specs.List.{join_with_byte}
+use Rattle.std.proofs.lemmas.Grind.{flat_map-append}
+use Rattle.il_text.specs.declared.fault.IlFault.{IlFault}
+use Rattle.il_text.specs.declared.fault.IlFault.TheVariants.{At, Memory}
+use Rattle.il_text.specs.declared.fault.IlKind.TheVariants as kind
+use Rattle.il_text.specs.declared.front.Front.{Front}
+use Rattle.il_text.specs.declared.front.Place.TheVariants as place
+use Rattle.il_text.specs.declared.line.Line.{Line}
+use Rattle.il_text.specs.Faults.{line_number, IsNextLine, NoNextLine, IsNoNextLine, IsFirstBadLine, IsLineFault}
+use Rattle.il_text.specs.Feeds.{HasNoFeed}
+use Rattle.il_text.specs.FitFronts.{IsFitFront}
+use Rattle.il_text.specs.Fronts.{front_lines, next}
+use Rattle.il_text.specs.Lines.{IsFitLine, line_words}
+use Rattle.il_text.specs.Texts.{line_bytes, lines_text}
+use Rattle.il_text.specs.Words.{words_of}
+use Rattle.il_text.proofs.FitLines.{AreFit, front_fit, fit_last}
+use Rattle.il_text.proofs.GrowFronts.{grow}
+use Rattle.il_text.proofs.LineBytes.{join_words, words_of_line, line_no_feed, same_line, no_line}
+use Rattle.il_text.proofs.RunFronts.{next_told}
+
+last_fit : (f g : Front) (l : Line) → IsFitFront g → front_lines g ≡ front_lines f ++ l ∷ [] → IsFitLine l
+last_fit f g l h e = fit_last (front_lines f) l (subst AreFit e (front_fit g h))
+
+-- where the bytes are no line
+pub no_words : (f : Front) (bytes : List ℕ) → ((l : Line) → IsFitLine l → words_of bytes ≡ line_words l → ⊥) → NoNextLine f bytes
+no_words f bytes none = λ g l h e is. let k = last_fit f g l h e in none l k (ap words_of is ∙ words_of_line l k)
+
+-- where the front doesn't go on with their line
+pub no_step : (f : Front) (line : Line) (bytes : List ℕ) → IsFitFront f → ((l : Line) → IsFitLine l → words_of bytes ≡ line_words l → line ≡ l) → next f line ≡ None → NoNextLine f bytes
+no_step f line bytes fits only none = λ g l h e is.
+    let k = last_fit f g l h e in
+    let same = only l k (ap words_of is ∙ words_of_line l k) in
+    let told : None ≡ Some g = sym none ∙ ap (λ m. next f m) same ∙ next_told f g l fits h e in
+    absurd (cc told)
+
+-- where it does
+pub one_step : (f g : Front) (line : Line) (bytes : List ℕ) → IsFitFront f → IsFitLine line → words_of bytes ≡ line_words line → next f line ≡ Some g → IsNextLine f bytes g
+one_step f g line bytes fits fit words told =
+    let r = grow f line g fits fit told in
+    record { fit = r.fit; line = line; lines = r.lines; spelled = sym (join_words bytes) ∙ ap (λ ws. join_with_byte 32 ws) words }
+
+more_text : (ls : List Line) (l : Line) → lines_text (ls ++ l ∷ []) ≡ lines_text ls ++ (line_bytes l ++ 10 ∷ [])
+more_text ls l = flat_map-append (λ m. line_bytes m ++ 10 ∷ []) ls (l ∷ []) ∙ ap (λ bs. lines_text ls ++ bs) (append-nil (line_bytes l ++ 10 ∷ []))
+
+-- the text goes over to the next front
+pub text_goes_on : (f g : Front) (b rest bytes behind : List ℕ) → IsNextLine f bytes g → b ≡ lines_text (front_lines f) ++ rest → rest ≡ bytes ++ 10 ∷ behind → b ≡ lines_text (front_lines g) ++ behind
+text_goes_on f g b rest bytes behind n e split =
+    e ∙ ap (λ l. lines_text (front_lines f) ++ l) (split ∙ ap (λ l. l ++ 10 ∷ behind) n.spelled ∙ sym (append_assoc (line_bytes n.line) (10 ∷ []) behind))
+    ∙ sym (append_assoc (lines_text (front_lines f)) (line_bytes n.line ++ 10 ∷ []) behind)
+    ∙ ap (λ l. l ++ behind) (sym (more_text (front_lines f) n.line) ∙ ap lines_text (sym n.lines))
+
+pub number_goes_on : (f g : Front) (bytes : List ℕ) (n m : ℕ) → IsNextLine f bytes g → n ≡ line_number (length (front_lines f)) → m ≡ min (n + 1) (2 ^ 32 - 1) → m ≡ line_number (length (front_lines g))
+number_goes_on f g bytes n m h e is = let len : length (front_lines g) ≡ length (front_lines f) + 1 = ap length h.lines ∙ length-append (front_lines f) (h.line ∷ []) in omega (arith, len, e, is)
+
+no_line_in : (bytes behind : List ℕ) → bytes ++ 10 ∷ behind ≡ [] → ⊥
+no_line_in [] behind e = absurd cc
+no_line_in (x ∷ bytes) behind e = absurd cc
+
+-- the first bad line, where a line follows
+pub bad_line : (f : Front) (b rest bytes behind : List ℕ) (n : ℕ) → IsFitFront f → b ≡ lines_text (front_lines f) ++ rest → n ≡ line_number (length (front_lines f)) → rest ≡ bytes ++ 10 ∷ behind → HasNoFeed bytes → NoNextLine f bytes → IsFirstBadLine b n
+bad_line f b rest bytes behind n h e number split plain none = record {
+  front = f;
+  fit = h;
+  rest = rest;
+  text = e;
+  number = number;
+  no_line = λ bytes' behind' is. λ g l fits lines spelled.
+      let same = same_line bytes bytes' behind behind' plain (subst HasNoFeed (sym spelled) (line_no_feed l (last_fit f g l fits lines))) (sym split ∙ is) in
+      none g l fits lines (same.0 ∙ spelled);
+  no_end = λ nothing done. no_line_in bytes behind (sym split ∙ nothing);
+}
+
+-- the first bad line, where no line follows
+pub no_more_lines : (f : Front) (b rest : List ℕ) (n : ℕ) → IsFitFront f → b ≡ lines_text (front_lines f) ++ rest → n ≡ line_number (length (front_lines f)) → HasNoFeed rest → (rest ≡ [] → f.place ≡ place.Done → ⊥) → IsFirstBadLine b n
+no_more_lines f b rest n h e number plain end = record {
+  front = f;
+  fit = h;
+  rest = rest;
+  text = e;
+  number = number;
+  no_line = λ bytes behind is. absurd (no_line bytes rest behind plain is);
+  no_end = end;
+}
+
+pub not_nothing : (xs : List ℕ) → (length xs == 0) ≡ false → xs ≡ [] → ⊥
+not_nothing [] h e = absurd cc
+not_nothing (x ∷ xs) h e = absurd cc
+
+-- a fault in the next line
+pub bad_next : (f : Front) (b rest bytes behind : List ℕ) (n : ℕ) (fault : IlFault) → IsFitFront f → b ≡ lines_text (front_lines f) ++ rest → n ≡ line_number (length (front_lines f)) → rest ≡ bytes ++ 10 ∷ behind → HasNoFeed bytes → IsNoNextLine f bytes n fault → IsLineFault b fault
+bad_next f b rest bytes behind n (At m kind.Line) h e number split plain none = bad_line f b rest bytes behind m h e (none.0 ∙ number) split plain none.1
+bad_next f b rest bytes behind n (At m kind.Order) h e number split plain none = none
+bad_next f b rest bytes behind n (At m (kind.Invalid flaw)) h e number split plain none = none
+bad_next f b rest bytes behind n (At m kind.NoMain) h e number split plain none = none
+bad_next f b rest bytes behind n Memory h e number split plain none = tt

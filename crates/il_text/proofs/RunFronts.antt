@@ -1,0 +1,156 @@
+-- The lines of a front lead to that front, and to no other.
+use Rattle.std.proofs.Common.{◌≡◌, ℕ, ◌+◌, ◌^◌, ◌<◌, ◌≤◌, List, [], ◌∷◌, ◌++◌, length, map, Option, Some, None, refl, sym, ◌∙◌, ap, subst, append-nil, append_assoc, length-append, arith}
+use Rattle.std.specs.Prelude.{flat_map}
+use Rattle.std.specs.List.{AllByRecursion}
+use Rattle.std.proofs.lemmas.Bool.{eq-eqb, lt-ltb}
+use Rattle.std.proofs.lemmas.List.Sums.{sum_by-cons}
+use Rattle.il_core.specs.declared.instr.Block.{Block}
+use Rattle.il_core.specs.declared.instr.Instr.{Instr}
+use Rattle.il_core.specs.Size.{block_size, blocks_size, size}
+use Rattle.il_text.specs.declared.front.Front.{Front}
+use Rattle.il_text.specs.declared.front.Place.{Place}
+use Rattle.il_text.specs.declared.front.Place.TheVariants.{Start, Outside, InRoutine, InBlock, Done}
+use Rattle.il_text.specs.declared.line.Line.{Line}
+use Rattle.il_text.specs.declared.line.Line.TheVariants as line
+use Rattle.il_text.specs.declared.line.NamedObject.{NamedObject}
+use Rattle.il_text.specs.declared.line.NamedRoutine.{NamedRoutine}
+use Rattle.il_text.specs.declared.statement.Statement.TheVariants as statement
+use Rattle.il_text.specs.Fronts.{header, block_lines, blocks_lines, open_lines, routine_lines, place_lines, inner_lines, lines_of, front_lines, with_block, next}
+use Rattle.il_text.specs.FitFronts.{IsFitRoutine, IsFitBlock, IsFitPlace, IsRoomAt, IsFitFront}
+
+abbrev front : List NamedObject → List NamedRoutine → Place → Front
+front os rs p = record { objects = os; routines = rs; place = p }
+
+abbrev and_next : Option Front → Line → Option Front
+and_next None l = None
+and_next (Some f) l = next f l
+
+-- the front behind these lines
+abbrev pub run : Option Front → List Line → Option Front
+run o [] = o
+run o (l ∷ ls) = run (and_next o l) ls
+
+run_append : (o : Option Front) (xs ys : List Line) → run o (xs ++ ys) ≡ run (run o xs) ys
+run_append o [] ys = refl
+run_append o (x ∷ xs) ys = run_append (and_next o x) xs ys
+
+-- two stretches of lines, one after another
+then_run : (o : Option Front) (xs ys : List Line) (f : Front) (g : Option Front) → run o xs ≡ Some f → run (Some f) ys ≡ g → run o (xs ++ ys) ≡ g
+then_run o xs ys f g e h = run_append o xs ys ∙ ap (λ q. run q ys) e ∙ h
+
+-- one line, and then more
+then_next : (f g : Front) (l : Line) (ls : List Line) (o : Option Front) → next f l ≡ Some g → run (Some g) ls ≡ o → run (Some f) (l ∷ ls) ≡ o
+then_next f g l ls o e h = ap (λ q. run q ls) e ∙ h
+
+next_instr : (os : List NamedObject) (rs : List NamedRoutine) (r : NamedRoutine) (n : ℕ) (is : List Instr) (i : Instr) → n + length is < 2 ^ 16
+    → next (front os rs (InBlock r n is)) (line.Inside (statement.Instr i)) ≡ Some (front os rs (InBlock r n (is ++ i ∷ [])))
+next_instr os rs r n is i lt = rw (lt-ltb (n + length is) 65536 (omega arith)) refl
+
+next_end : (os : List NamedObject) (rs : List NamedRoutine) (r : NamedRoutine) (n : ℕ) (x : Block) → n + length x.instrs < 2 ^ 16
+    → next (front os rs (InBlock r n x.instrs)) (line.Inside (statement.End x.end)) ≡ Some (front os rs (InRoutine (with_block r x) (n + length x.instrs + 1)))
+next_end os rs r n x lt = rw (lt-ltb (n + length x.instrs) 65536 (omega arith)) refl
+
+next_label : (os : List NamedObject) (rs : List NamedRoutine) (r : NamedRoutine) (n : ℕ) → next (front os rs (InRoutine r n)) (line.Label (length r.routine.blocks)) ≡ Some (front os rs (InBlock r n []))
+next_label os rs r n = rw (eq-eqb (length r.routine.blocks) (length r.routine.blocks) refl) refl
+
+next_routine : (os : List NamedObject) (rs : List NamedRoutine) (r : NamedRoutine) → length rs < 2 ^ 12 → next (front os rs Outside) (line.Routine r) ≡ Some (front os rs (InRoutine r 0))
+next_routine os rs r lt = rw (lt-ltb (length rs) 4096 (omega arith)) refl
+
+abbrev instr_lines : List Instr → List Line
+instr_lines is = map (λ i. line.Inside (statement.Instr i)) is
+
+run_instrs : (os : List NamedObject) (rs : List NamedRoutine) (r : NamedRoutine) (n : ℕ) (is js : List Instr) → n + length is + length js ≤ 2 ^ 16
+    → run (Some (front os rs (InBlock r n is))) (instr_lines js) ≡ Some (front os rs (InBlock r n (is ++ js)))
+run_instrs os rs r n is [] h = ap (λ l. Some (front os rs (InBlock r n l))) (sym (append-nil is))
+run_instrs os rs r n is (j ∷ js) h =
+    let lt : n + length is < 2 ^ 16 = omega arith in
+    let len = length-append is (j ∷ []) in
+    then_next (front os rs (InBlock r n is)) (front os rs (InBlock r n (is ++ j ∷ []))) (line.Inside (statement.Instr j)) (instr_lines js) _ (next_instr os rs r n is j lt)
+    (run_instrs os rs r n (is ++ j ∷ []) js (omega (arith, len)) ∙ ap (λ l. Some (front os rs (InBlock r n l))) (append_assoc is (j ∷ []) js))
+
+run_block : (os : List NamedObject) (rs : List NamedRoutine) (r : NamedRoutine) (n : ℕ) (x : Block) → n + block_size x ≤ 2 ^ 16
+    → run (Some (front os rs (InRoutine r n))) (block_lines (length r.routine.blocks) x) ≡ Some (front os rs (InRoutine (with_block r x) (n + block_size x)))
+run_block os rs r n x h =
+    then_next (front os rs (InRoutine r n)) (front os rs (InBlock r n [])) (line.Label (length r.routine.blocks)) (instr_lines x.instrs ++ line.Inside (statement.End x.end) ∷ []) _ (next_label os rs r n)
+    (then_run (Some (front os rs (InBlock r n []))) (instr_lines x.instrs) (line.Inside (statement.End x.end) ∷ []) (front os rs (InBlock r n x.instrs)) _ (run_instrs os rs r n [] x.instrs (omega arith))
+    (next_end os rs r n x (omega arith) ∙ ap (λ m. Some (front os rs (InRoutine (with_block r x) m))) (omega arith)))
+
+-- a routine with more blocks
+abbrev with_blocks : NamedRoutine → List Block → NamedRoutine
+with_blocks r xs = record r { routine = record r.routine { blocks = r.routine.blocks ++ xs } }
+
+more_blocks : (r : NamedRoutine) (x : Block) (xs : List Block) → with_blocks (with_block r x) xs ≡ with_blocks r (x ∷ xs)
+more_blocks r x xs = ap (λ bs. let q : NamedRoutine = record r { routine = record r.routine { blocks = bs } } in q) (append_assoc r.routine.blocks (x ∷ []) xs)
+
+no_blocks : (r : NamedRoutine) → with_blocks r [] ≡ r
+no_blocks r = ap (λ bs. let q : NamedRoutine = record r { routine = record r.routine { blocks = bs } } in q) (append-nil r.routine.blocks)
+
+run_blocks : (os : List NamedObject) (rs : List NamedRoutine) (r : NamedRoutine) (n b : ℕ) (xs : List Block) → b ≡ length r.routine.blocks → n + blocks_size xs ≤ 2 ^ 16
+    → run (Some (front os rs (InRoutine r n))) (blocks_lines b xs) ≡ Some (front os rs (InRoutine (with_blocks r xs) (n + blocks_size xs)))
+run_blocks os rs r n b [] e h = ap (λ q. Some (front os rs (InRoutine q n))) (sym (no_blocks r)) ∙ ap (λ m. Some (front os rs (InRoutine (with_blocks r []) m))) (omega arith)
+run_blocks os rs r n b (x ∷ xs) e h =
+    let total : blocks_size (x ∷ xs) ≡ block_size x + blocks_size xs = sum_by-cons block_size x xs in
+    let len = length-append r.routine.blocks (x ∷ []) in
+    then_run (Some (front os rs (InRoutine r n))) (block_lines b x) (blocks_lines (b + 1) xs) (front os rs (InRoutine (with_block r x) (n + block_size x))) _
+    (subst (λ k. run (Some (front os rs (InRoutine r n))) (block_lines k x) ≡ Some (front os rs (InRoutine (with_block r x) (n + block_size x)))) (sym e) (run_block os rs r n x (omega (arith, total))))
+    (run_blocks os rs (with_block r x) (n + block_size x) (b + 1) xs (omega (arith, len)) (omega (arith, total))
+    ∙ ap (λ q. Some (front os rs (InRoutine q (n + block_size x + blocks_size xs)))) (more_blocks r x xs)
+    ∙ ap (λ m. Some (front os rs (InRoutine (with_blocks r (x ∷ xs)) m))) (omega (arith, total)))
+
+run_open : (os : List NamedObject) (rs : List NamedRoutine) (r : NamedRoutine) → length rs < 2 ^ 12 → IsFitRoutine r
+    → run (Some (front os rs Outside)) (open_lines r) ≡ Some (front os rs (InRoutine r (size r.routine)))
+run_open os rs r lt h =
+    then_next (front os rs Outside) (front os rs (InRoutine (header r) 0)) (line.Routine (header r)) (blocks_lines 0 r.routine.blocks) _ (next_routine os rs (header r) lt)
+    (run_blocks os rs (header r) 0 0 r.routine.blocks refl (omega (arith, h.limits.size)) ∙ ap (λ m. Some (front os rs (InRoutine r m))) (omega arith))
+
+run_routine : (os : List NamedObject) (rs : List NamedRoutine) (r : NamedRoutine) → length rs < 2 ^ 12 → IsFitRoutine r
+    → run (Some (front os rs Outside)) (routine_lines r) ≡ Some (front os (rs ++ r ∷ []) Outside)
+run_routine os rs r lt h = then_run (Some (front os rs Outside)) (open_lines r) (line.Close ∷ []) (front os rs (InRoutine r (size r.routine))) _ (run_open os rs r lt h) refl
+
+run_routines : (os : List NamedObject) (rs xs : List NamedRoutine) → length rs + length xs ≤ 2 ^ 12 → AllByRecursion IsFitRoutine xs
+    → run (Some (front os rs Outside)) (flat_map routine_lines xs) ≡ Some (front os (rs ++ xs) Outside)
+run_routines os rs [] le h = ap (λ l. Some (front os l Outside)) (sym (append-nil rs))
+run_routines os rs (x ∷ xs) le h =
+    let len = length-append rs (x ∷ []) in
+    then_run (Some (front os rs Outside)) (routine_lines x) (flat_map routine_lines xs) (front os (rs ++ x ∷ []) Outside) _ (run_routine os rs x (omega arith) h.0)
+    (run_routines os (rs ++ x ∷ []) xs (omega (arith, len)) h.1 ∙ ap (λ l. Some (front os l Outside)) (append_assoc rs (x ∷ []) xs))
+
+run_objects : (os xs : List NamedObject) → run (Some (front os [] Outside)) (map (λ o. line.Object o) xs) ≡ Some (front (os ++ xs) [] Outside)
+run_objects os [] = ap (λ l. Some (front l [] Outside)) (sym (append-nil os))
+run_objects os (x ∷ xs) = run_objects (os ++ x ∷ []) xs ∙ ap (λ l. Some (front l [] Outside)) (append_assoc os (x ∷ []) xs)
+
+run_inner : (os : List NamedObject) (rs : List NamedRoutine) → length rs ≤ 2 ^ 12 → AllByRecursion IsFitRoutine rs → run (Some (front [] [] Outside)) (inner_lines os rs) ≡ Some (front os rs Outside)
+run_inner os rs le h = then_run (Some (front [] [] Outside)) (map (λ o. line.Object o) os) (flat_map routine_lines rs) (front os [] Outside) _ (run_objects [] os) (run_routines os [] rs (omega arith) h)
+
+abbrev pub at_start : Front
+at_start = front [] [] Start
+
+run_to : (os : List NamedObject) (rs : List NamedRoutine) (p : Place) → length rs ≤ 2 ^ 12 → AllByRecursion IsFitRoutine rs → run (Some (front os rs Outside)) (place_lines p) ≡ Some (front os rs p)
+    → run (Some at_start) (line.First ∷ inner_lines os rs ++ place_lines p) ≡ Some (front os rs p)
+run_to os rs p le h e = then_run (Some (front [] [] Outside)) (inner_lines os rs) (place_lines p) (front os rs Outside) _ (run_inner os rs le h) e
+
+run_in_block : (os : List NamedObject) (rs : List NamedRoutine) (r : NamedRoutine) (n : ℕ) (is : List Instr) → length rs < 2 ^ 12 → IsFitRoutine r → n ≡ size r.routine → IsFitBlock n is
+    → run (Some (front os rs Outside)) (place_lines (InBlock r n is)) ≡ Some (front os rs (InBlock r n is))
+run_in_block os rs r n is lt h e b =
+    then_run (Some (front os rs Outside)) (open_lines r) (line.Label (length r.routine.blocks) ∷ instr_lines is) (front os rs (InRoutine r n)) _
+    (run_open os rs r lt h ∙ ap (λ m. Some (front os rs (InRoutine r m))) (sym e))
+    (then_next (front os rs (InRoutine r n)) (front os rs (InBlock r n [])) (line.Label (length r.routine.blocks)) (instr_lines is) _ (next_label os rs r n) (run_instrs os rs r n [] is (omega (arith, b.room))))
+
+run_at : (p : Place) (os : List NamedObject) (rs : List NamedRoutine) → AllByRecursion IsFitRoutine rs → IsFitPlace p → IsRoomAt p os rs → run (Some at_start) (lines_of p os rs) ≡ Some (front os rs p)
+run_at Start os rs h k room = ap (λ l. Some (front l [] Start)) (sym room.0) ∙ ap (λ l. Some (front os l Start)) (sym room.1)
+run_at Outside os rs h k room = run_to os rs Outside room h refl
+run_at (InRoutine r n) os rs h k room = run_to os rs (InRoutine r n) (omega arith) h (run_open os rs r room k.0 ∙ ap (λ m. Some (front os rs (InRoutine r m))) (sym k.1))
+run_at (InBlock r n is) os rs h k room = run_to os rs (InBlock r n is) (omega arith) h (run_in_block os rs r n is room k.0 k.1 k.2)
+run_at Done os rs h k room = run_to os rs Done room h refl
+
+-- the lines of a front that fits lead to it
+pub run_front : (f : Front) → IsFitFront f → run (Some at_start) (front_lines f) ≡ Some f
+run_front f h = run_at f.place f.objects f.routines h.routines h.place h.room
+
+-- what follows a front is told by its lines and the next one
+pub next_told : (f g : Front) (l : Line) → IsFitFront f → IsFitFront g → front_lines g ≡ front_lines f ++ l ∷ [] → next f l ≡ Some g
+next_told f g l h k e = sym (run_append (Some at_start) (front_lines f) (l ∷ []) ∙ ap (λ o. run o (l ∷ [])) (run_front f h)) ∙ ap (λ ls. run (Some at_start) ls) (sym e) ∙ run_front g k
+
+-- two fronts with the same lines are one
+pub same_front : (f g : Front) → IsFitFront f → IsFitFront g → front_lines f ≡ front_lines g → f ≡ g
+same_front f g h k e = let s : Some f ≡ Some g = sym (run_front f h) ∙ ap (λ ls. run (Some at_start) ls) e ∙ run_front g k in cc s

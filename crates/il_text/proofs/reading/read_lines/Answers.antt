@@ -1,0 +1,17 @@
+use Rattle.std.proofs.Common.{sym, ◌∙◌}
+use Rattle.std.proofs.lemmas.Result.{err_from_is_err_and}
+use Rattle.il_text.proofs.NextLines.{bad_next, no_more_lines, not_nothing}
+use Rattle.il_text.proofs.reading.read_lines.Goals.{else-is_empty-via-then-is_empty+else-is_done, else-is_empty-via-else-is_empty}
+use Rattle.il_text.proofs.reading.read_lines.Goals as goal
+
+pub returns-in_err-front-clause-fault : goal.returns-in_err-front-clause-fault
+returns-in_err-front-clause-fault c =
+    let p = err_from_is_err_and c.from_residual.result c.from_residual.ensures.1 in
+    rw (p.1, p.2) (bad_next c.loop-bytes.front c.args.b.now c.loop-bytes.rest.now c.in-Some.bytes.now c.in-Some.behind.now c.loop-bytes.number c.in_err-front.field-0.0 c.loop-bytes.invariant.fit c.loop-bytes.invariant.text c.loop-bytes.invariant.number c.in-Some.ensures.found c.in-Some.ensures.line c.in_err-front.ensures.fault)
+
+pub returns-else-is_empty-clause-fault : goal.returns-else-is_empty-clause-fault
+returns-else-is_empty-clause-fault c = no_more_lines c.loop-bytes.front c.args.b.now c.loop-bytes.rest.now c.loop-bytes.number c.loop-bytes.invariant.fit c.loop-bytes.invariant.text c.loop-bytes.invariant.number c.in_default.ensures.none
+    (elim c.else-is_empty.branch [
+      | else-is_empty-via-then-is_empty+else-is_done w ↦ λ nothing done. w.is_done.ensures.no w.if-is_done.false done
+      | else-is_empty-via-else-is_empty w ↦ λ nothing done. not_nothing c.loop-bytes.rest.now (sym c.is_empty.ensures ∙ w.if-is_empty.false) nothing
+    ])
