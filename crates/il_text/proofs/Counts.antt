@@ -14,7 +14,7 @@ use Rattle.il_core.specs.Shapes.{IsRising}
 use Rattle.il_core.specs.Valid.{HasEachNameOnce}
 use Rattle.il_text.specs.declared.line.NamedObject.{NamedObject}
 use Rattle.il_text.specs.declared.line.NamedRoutine.{NamedRoutine}
-use Rattle.il_text.specs.Assembled.{object_row, routine_row, all_rows, or_else, is_in_order}
+use Rattle.il_text.specs.Assembled.{object_row, routine_row, all_rows, or_else, first_out_of_order}
 use Rattle.il_text.specs.Order.{Item, object_item, object_items, routine_item, routine_items, has_pid, has_name, is_above, is_placed, first_misplaced}
 
 -- how many pass a test
@@ -108,7 +108,7 @@ split None b e = (refl, e)
 split (Some k) b e = absurd cc
 
 -- objects and routines that are in order, apart
-pub object_part : (os : List NamedObject) (rs : List NamedRoutine) → is_in_order os rs ≡ None → (first_misplaced [] None (object_items os) ≡ None) × (first_misplaced (object_items os) None (routine_items rs) ≡ None)
+pub object_part : (os : List NamedObject) (rs : List NamedRoutine) → first_out_of_order os rs ≡ None → (first_misplaced [] None (object_items os) ≡ None) × (first_misplaced (object_items os) None (routine_items rs) ≡ None)
 object_part os rs e = split (first_misplaced [] None (object_items os)) (first_misplaced (object_items os) None (routine_items rs)) e
 
 any_zero : (t : Item → Bool) (xs : List Item) → list_any t xs ≡ false → count t xs ≡ 0
@@ -119,7 +119,7 @@ any_zero t (x ∷ xs) e = elim (cases_Bool (t x)) [
 ]
 
 -- a test passes one at most of all items
-all_once : (t : Item → Bool) → IsTest t → (os : List NamedObject) (rs : List NamedRoutine) → is_in_order os rs ≡ None → count t (object_items os) + count t (routine_items rs) ≤ 1
+all_once : (t : Item → Bool) → IsTest t → (os : List NamedObject) (rs : List NamedRoutine) → first_out_of_order os rs ≡ None → count t (object_items os) + count t (routine_items rs) ≤ 1
 all_once t test os rs e =
     let p = object_part os rs e in
     let a = once t test [] None (object_items os) p.0 in
@@ -129,7 +129,7 @@ all_once t test os rs e =
       | inr misses ↦ let none = any_zero t (object_items os) misses in omega (arith, none, b.1)
     ]
 
-rows_pids : (q : ℕ) (os : List NamedObject) (rs : List NamedRoutine) → is_in_order os rs ≡ None → count (λ (r : ShapeRow). r.pid == q) (all_rows os rs) ≤ 1
+rows_pids : (q : ℕ) (os : List NamedObject) (rs : List NamedRoutine) → first_out_of_order os rs ≡ None → count (λ (r : ShapeRow). r.pid == q) (all_rows os rs) ≤ 1
 rows_pids q os rs e =
     let t = λ (y : Item). y.pid == q in
     let a = count_append (λ (r : ShapeRow). r.pid == q) (map object_row os) (map routine_row rs) in
@@ -137,7 +137,7 @@ rows_pids q os rs e =
     let c = count_map routine_row (λ (r : ShapeRow). r.pid == q) rs ∙ sym (count_map routine_item t rs) in
     omega (arith, a, b, c, all_once t (pid_test q) os rs e)
 
-rows_names : (q : List ℕ) (os : List NamedObject) (rs : List NamedRoutine) → is_in_order os rs ≡ None → count (λ (r : ShapeRow). bytes_eq r.name q) (all_rows os rs) ≤ 1
+rows_names : (q : List ℕ) (os : List NamedObject) (rs : List NamedRoutine) → first_out_of_order os rs ≡ None → count (λ (r : ShapeRow). bytes_eq r.name q) (all_rows os rs) ≤ 1
 rows_names q os rs e =
     let t = λ (y : Item). bytes_eq y.name q in
     let a = count_append (λ (r : ShapeRow). bytes_eq r.name q) (map object_row os) (map routine_row rs) in
@@ -161,7 +161,7 @@ rises (x ∷ y ∷ ys) h k =
     let le : x.pid ≤ y.pid = h 0 1 x (omega arith) (omega arith) in
     (omega (arith, le, differ x y ys k), rises (y ∷ ys) (λ i j d a b. h (suc i) (suc j) d (omega arith) (omega arith)) (rest_once x (y ∷ ys) k))
 
-pub rows_rise : (os : List NamedObject) (rs : List NamedRoutine) (rows : List ShapeRow) → is_in_order os rs ≡ None → IsPermutation (all_rows os rs) rows → IsNonDecreasingBy (λ r. r.pid) rows → IsRising (λ r. r.pid) rows
+pub rows_rise : (os : List NamedObject) (rs : List NamedRoutine) (rows : List ShapeRow) → first_out_of_order os rs ≡ None → IsPermutation (all_rows os rs) rows → IsNonDecreasingBy (λ r. r.pid) rows → IsRising (λ r. r.pid) rows
 rows_rise os rs rows e h k = rises rows k (λ q. let m = count_moved (λ (r : ShapeRow). r.pid == q) (all_rows os rs) rows h in omega (arith, m, rows_pids q os rs e))
 
 -- where none passes, each fails
@@ -184,7 +184,7 @@ names_once (row ∷ rows) k =
       names_once rows (λ q. let d = count_cons (λ (r : ShapeRow). bytes_eq r.name q) row rows in omega (arith, d, k q)),
     )
 
-pub rows_names_once : (os : List NamedObject) (rs : List NamedRoutine) (rows : List ShapeRow) → is_in_order os rs ≡ None → IsPermutation (all_rows os rs) rows → HasEachNameOnce rows
+pub rows_names_once : (os : List NamedObject) (rs : List NamedRoutine) (rows : List ShapeRow) → first_out_of_order os rs ≡ None → IsPermutation (all_rows os rs) rows → HasEachNameOnce rows
 rows_names_once os rs rows e h = names_once rows (λ q. let m = count_moved (λ (r : ShapeRow). bytes_eq r.name q) (all_rows os rs) rows h in omega (arith, m, rows_names q os rs e))
 
 all_fail : {X : Type 0} (t : X → Bool) (xs : List X) → AllByRecursion (λ x. t x ≡ false) xs → count t xs ≡ 0

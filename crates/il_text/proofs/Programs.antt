@@ -20,7 +20,7 @@ use Rattle.il_core.specs.Valid.{IsValid, IsProgram}
 use Rattle.il_check.proofs.RisingRows.{is_there}
 use Rattle.il_text.specs.declared.line.NamedObject.{NamedObject}
 use Rattle.il_text.specs.declared.line.NamedRoutine.{NamedRoutine}
-use Rattle.il_text.specs.Assembled.{object_row, routine_row, all_rows, is_in_order, HasPartsOf}
+use Rattle.il_text.specs.Assembled.{object_row, routine_row, all_rows, first_out_of_order, HasPartsOf}
 use Rattle.il_text.specs.Checked.{is_main, is_main_shape}
 use Rattle.il_text.specs.declared.front.Front.{Front}
 use Rattle.il_text.specs.declared.front.Place.{Place}
@@ -121,7 +121,7 @@ main_found (r ∷ rows) e = elim (cases_Bool (is_main r)) [
 ]
 
 -- a valid program
-pub is_program : (os : List NamedObject) (rs : List NamedRoutine) (p : IlProgram) → AllByRecursion IsFitObject os → AllByRecursion IsFitRoutine rs → length rs ≤ 2 ^ 12 → is_in_order os rs ≡ None → HasPartsOf os rs p
+pub is_program : (os : List NamedObject) (rs : List NamedRoutine) (p : IlProgram) → AllByRecursion IsFitObject os → AllByRecursion IsFitRoutine rs → length rs ≤ 2 ^ 12 → first_out_of_order os rs ≡ None → HasPartsOf os rs p
     → AllByRecursion (IsValid p.shapes) p.routines → list_any is_main p.shapes ≡ true → IsProgram p
 is_program os rs p a b few e h valid main =
     let part = object_part os rs e in

@@ -24,8 +24,8 @@ or_else None o = o
 or_else (Some k) o = Some k
 
 -- the first object or routine that is out of order, if there is one
-abbrev pub is_in_order : List NamedObject → List NamedRoutine → Option ℕ
-is_in_order os rs = or_else (first_misplaced [] None (object_items os)) (first_misplaced (object_items os) None (routine_items rs))
+abbrev pub first_out_of_order : List NamedObject → List NamedRoutine → Option ℕ
+first_out_of_order os rs = or_else (first_misplaced [] None (object_items os)) (first_misplaced (object_items os) None (routine_items rs))
 
 -- these objects and routines, with their rows in order
 pub record HasPartsOf (os : List NamedObject) (rs : List NamedRoutine) (p : IlProgram) : Type 0 where

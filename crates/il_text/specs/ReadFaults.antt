@@ -10,7 +10,7 @@ use Rattle.il_text.specs.declared.fault.IlKind.TheVariants as kind
 use Rattle.il_text.specs.declared.front.Place.TheVariants.{Done}
 use Rattle.il_text.specs.declared.line.NamedObject.{NamedObject}
 use Rattle.il_text.specs.declared.line.NamedRoutine.{NamedRoutine}
-use Rattle.il_text.specs.Assembled.{is_in_order, HasPartsOf}
+use Rattle.il_text.specs.Assembled.{first_out_of_order, HasPartsOf}
 use Rattle.il_text.specs.Checked.{IsFirstFlawed, is_main, line_count}
 use Rattle.il_text.specs.Faults.{IsFirstBadLine}
 use Rattle.il_text.specs.FitFronts.{IsFitRoutine}
@@ -72,7 +72,7 @@ WithDraft b P = (os : List NamedObject) × (rs : List NamedRoutine) × IsDraft b
 
 -- they are in order, and this holds of the program that they make
 abbrev pub WithProgram : List ℕ → (IlProgram → Type 0) → Type 0
-WithProgram b P = WithDraft b (λ os rs. (is_in_order os rs ≡ None) × (p : IlProgram) × HasPartsOf os rs p × P p)
+WithProgram b P = WithDraft b (λ os rs. (first_out_of_order os rs ≡ None) × (p : IlProgram) × HasPartsOf os rs p × P p)
 
 abbrev pub IsFaultOf : List ℕ → IlFault → Type 0
 IsFaultOf b (At n kind.Line) = IsFirstBadLine b n

@@ -1,6 +1,6 @@
 //! The program of objects and routines with their names.
 ghost use Rattle.std.specs.Prelude.{◌≡◌, ◌++◌, IfOk, None, map};
-ghost use Rattle.il_text.specs.Assembled.{is_in_order, object_row, routine_row, HasPartsOf};
+ghost use Rattle.il_text.specs.Assembled.{first_out_of_order, object_row, routine_row, HasPartsOf};
 
 use crate::line::{NamedObject, NamedRoutine};
 use hlo_num::{Name, Seq};
@@ -13,7 +13,7 @@ pub(crate) fn assemble(
     objects: Seq<NamedObject>,
     routines: Seq<NamedRoutine>,
 ) -> Result<IlProgram, AllocError>
-    requires { is_in_order objects routines ≡ None }
+    requires { first_out_of_order objects routines ≡ None }
     ensures { IfOk result (λ p. HasPartsOf objects routines p) }
 {
     let mut rows = Vec::new(alloc);

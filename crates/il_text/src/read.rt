@@ -2,7 +2,7 @@
 ghost use Rattle.std.specs.Prelude.{◌≡◌, ◌+◌, ◌^◌, ◌≤◌, [], IfOk, IfErr, OnOk, None, length, sum_by};
 ghost use Rattle.il_core.specs.Text as text;
 ghost use Rattle.il_core.specs.Valid.{IsProgram};
-ghost use Rattle.il_text.specs.Assembled.{is_in_order};
+ghost use Rattle.il_text.specs.Assembled.{first_out_of_order};
 ghost use Rattle.il_text.specs.Checked.{line_count};
 ghost use Rattle.il_text.specs.ReadFaults.{IsFaultOf, IsOrderFault, IsCheckFault, IsFine, capped};
 
@@ -45,7 +45,7 @@ fn in_order(
     routines: &[NamedRoutine],
 ) -> Result<(), IlFault>
     requires { length routines.now ≤ 2 ^ 12 }
-    ensures ok { OnOk result (is_in_order objects.now routines.now ≡ None) }
+    ensures ok { OnOk result (first_out_of_order objects.now routines.now ≡ None) }
     ensures fault { IfErr result (λ e. IsOrderFault objects.now routines.now e) }
 {
     let mut used = Used {
