@@ -26,11 +26,12 @@ too_long Untold h = tt
 too_long Absent h = h
 too_long (Holds whole) h = λ body source. let short = source.short in omega arith
 
--- the text of the program is its head, its routine and its last line
-pub text_in_pieces : (r : RoutineParts) (t : List ℕ) → r.pid ≡ 0 → t ≡ routine_text (codes "main") r → (codes "hlo-il 1" ++ 10 ∷ []) ++ (t ++ (codes "done" ++ 10 ∷ [])) ≡ text (program_of r)
-text_in_pieces r t first e =
+-- the text of the program is its head, which names no object, its routine and its last line
+pub text_in_pieces : (r : RoutineParts) (h t : List ℕ) → r.pid ≡ 0 → h ≡ head_text [] [] → t ≡ routine_text (codes "main") r → h ++ (t ++ (codes "done" ++ 10 ∷ [])) ≡ text (program_of r)
+text_in_pieces r h t first head e =
     let name : name_at (main_row ∷ []) r.pid ≡ codes "main" = ap (name_at (main_row ∷ [])) first in
-    ap (λ l. head_text (main_row ∷ []) [] ++ (l ++ done_text)) (e ∙ ap (λ n. routine_text n r) (sym name) ∙ sym (append-nil (routine_text (name_at (main_row ∷ []) r.pid) r)))
+    ap (λ l. l ++ (t ++ done_text)) head
+    ∙ ap (λ l. head_text (main_row ∷ []) [] ++ (l ++ done_text)) (e ∙ ap (λ n. routine_text n r) (sym name) ∙ sym (append-nil (routine_text (name_at (main_row ∷ []) r.pid) r)))
     ∙ sym (append_assoc (head_text (main_row ∷ []) []) (routine_text (name_at (main_row ∷ []) r.pid) r ++ []) done_text)
 
 pub appends_text : (a b : Option (List ℕ)) (xs ys : List ℕ) → xs ≡ ys → Appends a b xs → Appends a b ys

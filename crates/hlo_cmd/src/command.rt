@@ -17,9 +17,9 @@ use crate::pieces::{tell, write_three};
 use crate::refusal::Refusal;
 use crate::report::{OptAnswer, Report, Status};
 use crate::words::{requested_file, second_word};
-use hlo_num::Name;
-use il_core::Routine;
-use il_text::write_routine;
+use hlo_num::{Name, Seq};
+use il_core::{Routine, Shapes};
+use il_text::{write_head, write_routine};
 use outside::{Disk, Gate, ReadFault, Shelf, Sink, read_whole};
 use std::alloc::Global;
 
@@ -122,7 +122,7 @@ fn read_routine<S: Shelf>(alloc: Global, shelf: &mut S, file: &str) -> Result<Ro
 }
 
 /// Puts out the text of a program of one routine, `main`, and no objects: the head, the routine, and the
-/// last line, each as one piece.
+/// last line, each as one piece. The head names nothing, so that no shapes are wanted for it.
 fn print<O: Sink>(alloc: Global, routine: &Routine, out: &mut O) -> Result<(), Refusal>
     requires { routine.now.pid ≡ 0 }
     ensures bytes { TakesAll (O.taken out.old) (O.taken out.new) result (text (program_of routine.now)) }
@@ -131,10 +131,16 @@ fn print<O: Sink>(alloc: Global, routine: &Routine, out: &mut O) -> Result<(), R
     let Ok(name) = Name::new(alloc, b"main") else {
         return Err(Refusal::Memory);
     };
+    let shapes = Shapes {
+        rows: Seq::new(alloc),
+    };
+    let Ok(head) = write_head(alloc, &[], &shapes) else {
+        return Err(Refusal::Memory);
+    };
     let Ok(text) = write_routine(alloc, routine, &name) else {
         return Err(Refusal::Memory);
     };
-    match write_three(out, b"hlo-il 1\n", text.as_slice(), b"done\n") {
+    match write_three(out, head.as_slice(), text.as_slice(), b"done\n") {
         Ok(()) => Ok(()),
         Err(_) => Err(Refusal::CannotWrite),
     }
