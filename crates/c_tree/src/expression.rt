@@ -1,6 +1,9 @@
 //! Expressions and the specifiers of types (ISO C90, 6.3 and 6.5.2). The two lead to each other: a cast
 //! names a type, and an enumeration of a type has values.
 
+ghost use Rattle.std.specs.Prelude.{◌≡◌};
+ghost use Rattle.c_tree.specs.Lines.{line_of};
+
 use hlo_num::{Name, Ty, Word};
 use sqlite_items::{Boxed, Items};
 
@@ -28,9 +31,16 @@ pub enum Expr {
         arguments: Items<Expr>,
     },
     /// A number or a character constant.
-    Constant { line: u32, value: Word, ty: Ty },
+    Constant {
+        line: u32,
+        value: Word,
+        ty: Ty,
+    },
     /// `(e)`
-    Paren { line: u32, inner: Boxed<Expr> },
+    Paren {
+        line: u32,
+        inner: Boxed<Expr>,
+    },
     /// `e++` or `e--`
     Postfix {
         line: u32,
@@ -84,6 +94,29 @@ pub enum Expr {
     },
 }
 
+impl Expr {
+    /// The line of the first token.
+    pub fn line(&self) -> u32
+        ensures { result ≡ line_of self.now }
+    {
+        match self {
+            Expr::Name(name) => name.line,
+            Expr::Index { array, .. } => array.line,
+            Expr::Call { function, .. } => function.line,
+            Expr::Constant { line, .. }
+            | Expr::Paren { line, .. }
+            | Expr::Postfix { line, .. }
+            | Expr::Prefix { line, .. }
+            | Expr::Unary { line, .. }
+            | Expr::Cast { line, .. }
+            | Expr::Binary { line, .. }
+            | Expr::Conditional { line, .. }
+            | Expr::Assign { line, .. }
+            | Expr::Comma { line, .. } => *line,
+        }
+    }
+}
+
 /// The specifiers of a declaration, a parameter or a cast, in their order. There is at least one, and the
 /// line is that of the first.
 #[cycle(expression)]
@@ -98,9 +131,15 @@ pub struct Specifiers {
 #[derive(Drop)]
 pub enum Specifier {
     /// A word that stands alone.
-    Word { line: u32, word: SpecifierWord },
+    Word {
+        line: u32,
+        word: SpecifierWord,
+    },
     /// `enum t`
-    EnumTag { line: u32, tag: Identifier },
+    EnumTag {
+        line: u32,
+        tag: Identifier,
+    },
     /// `enum { .. }` or `enum t { .. }`
     Enum {
         line: u32,

@@ -20,7 +20,9 @@ pub enum Stmt {
     /// `{ .. }`
     Block(Block),
     /// `;`
-    Empty { line: u32 },
+    Empty {
+        line: u32,
+    },
     /// `e;`, whose line is that of `e`
     Expression(Expr),
     /// `if (c) s`
@@ -69,11 +71,21 @@ pub enum Stmt {
         body: Boxed<Stmt>,
     },
     /// `default: s`
-    Default { line: u32, body: Boxed<Stmt> },
+    Default {
+        line: u32,
+        body: Boxed<Stmt>,
+    },
     /// `break;`
-    Break { line: u32 },
+    Break {
+        line: u32,
+    },
     /// `continue;`
-    Continue { line: u32 },
+    Continue {
+        line: u32,
+    },
     /// `return;` or `return e;`
-    Return { line: u32, value: Option<Expr> },
+    Return {
+        line: u32,
+        value: Option<Expr>,
+    },
 }
