@@ -1,7 +1,8 @@
--- The line of an expression: that of its first token.
+-- The line of an expression or a specifier: that of its first token.
 use Rattle.std.specs.Prelude.{ℕ}
+use Rattle.c_tree.specs.declared.expression.Specifier.{Specifier, out-Specifier}
 use Rattle.c_tree.specs.declared.expression.Expr.{Expr, out-Expr}
-use Rattle.c_tree.specs.declared.expression.Expr.TheOpen.{Expr-F}
+use Rattle.c_tree.specs.declared.expression.Expr.TheOpen.{Expr-F, Specifier-F}
 
 abbrev pub layer_line : {A B C D : Type 0} → Expr-F A B C D → ℕ
 layer_line (Expr-F.Name x) = x.line
@@ -20,3 +21,11 @@ layer_line (Expr-F.Comma l a b) = l
 
 abbrev pub line_of : Expr → ℕ
 line_of e = layer_line (out-Expr e)
+
+abbrev pub specifier_layer_line : {A B C D : Type 0} → Specifier-F A B C D → ℕ
+specifier_layer_line (Specifier-F.Word l w) = l
+specifier_layer_line (Specifier-F.EnumTag l t) = l
+specifier_layer_line (Specifier-F.Enum l t es) = l
+
+abbrev pub specifier_line : Specifier → ℕ
+specifier_line s = specifier_layer_line (out-Specifier s)

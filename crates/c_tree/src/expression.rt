@@ -2,7 +2,7 @@
 //! names a type, and an enumeration of a type has values.
 
 ghost use Rattle.std.specs.Prelude.{◌≡◌};
-ghost use Rattle.c_tree.specs.Lines.{line_of};
+ghost use Rattle.c_tree.specs.Lines.{line_of, specifier_line};
 
 use hlo_num::{Name, Ty, Word};
 use sqlite_items::{Boxed, Items};
@@ -146,6 +146,19 @@ pub enum Specifier {
         tag: Option<Identifier>,
         enumerators: Items<Enumerator>,
     },
+}
+
+impl Specifier {
+    /// The line of the first token.
+    pub fn line(&self) -> u32
+        ensures { result ≡ specifier_line self.now }
+    {
+        match self {
+            Specifier::Word { line, .. }
+            | Specifier::EnumTag { line, .. }
+            | Specifier::Enum { line, .. } => *line,
+        }
+    }
 }
 
 /// A constant of an enumeration: `x`, or `x = e`.

@@ -1,0 +1,4 @@
+pub mod Members
+pub mod Readers
+pub mod Rows
+pub mod Forks
