@@ -2,3 +2,9 @@ pub mod Members
 pub mod Readers
 pub mod Rows
 pub mod Forks
+pub mod Maps
+pub mod Heights
+pub mod Bounds
+pub mod Chains
+pub mod Numbers
+pub mod Words

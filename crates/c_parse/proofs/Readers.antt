@@ -91,7 +91,7 @@ reads_as to from up R = record {
 }
 
 -- one token
-some_front : {A : Type 0} (x : Option A) → is_some x ≡ true → (a : A) × (x ≡ Some a)
+pub some_front : {A : Type 0} (x : Option A) → is_some x ≡ true → (a : A) × (x ≡ Some a)
 some_front None h = absurd cc
 some_front (Some a) h = (a, refl)
 

@@ -12,14 +12,14 @@ pub data Grown {A B : Type 0} (F : A → List Token → Type 0) (T : B → List 
   start : (a : A) (us : List Token) → F a us → Grown F T test fits g a us
   more : (a : A) (b : B) (us vs : List Token) → Grown F T test fits g a us → test a ≡ true → fits a ≡ true → T b vs → Grown F T test fits g (g a b) (us ++ vs)
 
-pub grown_mono : {A B : Type 0} {F F' : A → List Token → Type 0} {T T' : B → List Token → Type 0} {test fits fits' : A → Bool} {g : A → B → A} → ((a : A) (us : List Token) → F a us → F' a us) → ((b : B) (us : List Token) → T b us → T' b us) → ((a : A) → fits a ≡ true → fits' a ≡ true) → (a : A) (us : List Token) → Grown F T test fits g a us → Grown F' T' test fits' g a us
+pub grown_mono : {A B : Type 0} {F F' : A → List Token → Type 0} {T T' : B → List Token → Type 0} {test fits fits' : A → Bool} {g : A → B → A} → ((a : A) (us : List Token) → F a us → F' a us) → ((a : A) → fits a ≡ true → (b : B) (us : List Token) → T b us → T' b us) → ((a : A) → fits a ≡ true → fits' a ≡ true) → (a : A) (us : List Token) → Grown F T test fits g a us → Grown F' T' test fits' g a us
 grown_mono f t h a us (start b vs l) = start b vs (f b vs l)
-grown_mono f t h a us (more c b us1 vs d e1 e2 l) = more c b us1 vs (grown_mono f t h c us1 d) e1 (h c e2) (t b vs l)
+grown_mono f t h a us (more c b us1 vs d e1 e2 l) = more c b us1 vs (grown_mono f t h c us1 d) e1 (h c e2) (t c e2 b vs l)
 
 module _ {A B : Type 0} {F F' : A → List Token → Type 0} {T T' : B → List Token → Type 0} {p q : List Token → Reply A} {t t' : List Token → Reply B} {next next2 : List ℕ} {follow : A → List ℕ} {follow2 : B → List ℕ}
-    (R : Reads F F' p q next follow) (S : Reads T T' t t' next2 follow2) (test fits fits' : A → Bool) (ks : List ℕ) (g : A → B → A) (after : List ℕ) (w : List Token)
+    (R : Reads F F' p q next follow) (test fits fits' : A → Bool) (S : (a : A) → fits a ≡ true → Reads T T' t t' next2 follow2) (ks : List ℕ) (g : A → B → A) (after : List ℕ) (w : List Token)
     (here : subset next2 ks ≡ true) (goes : (a : A) → subset ks (follow a) ≡ true) (ends : (a : A) → subset after (follow a) ≡ true)
-    (goes2 : (b : B) → subset ks (follow2 b) ≡ true) (ends2 : (b : B) → subset after (follow2 b) ≡ true)
+    (goes2 : (a : A) (b : B) → test (g a b) ≡ true → subset ks (follow2 b) ≡ true) (ends2 : (b : B) → subset after (follow2 b) ≡ true)
     (stops : apart after ks ≡ true) (no_end : member 0 ks ≡ false) (w_in : (b : B) → member (look w) (follow2 b) ≡ true) (w_out : member (look w) next2 ≡ false)
     (mono : (a : A) → fits a ≡ true → fits' a ≡ true)
     (lifts : (a : A) (us : List Token) → Grown F T test fits g a us → fits' a ≡ true)
@@ -30,9 +30,9 @@ module _ {A B : Type 0} {F F' : A → List Token → Type 0} {T T' : B → List 
   V : A → List Token → Type 0
   V = Grown F' T' test fits' g
 
-  never_empty : (b : B) (us : List Token) → T b us → 0 < length us
-  never_empty b [] v = let h : member (look w) next2 ≡ true = S.opens b [] w v (w_in b) in absurd (let x : true ≡ false = sym h ∙ w_out in cc)
-  never_empty b (u ∷ us) v = omega arith
+  never_empty : (a : A) → fits a ≡ true → (b : B) (us : List Token) → T b us → 0 < length us
+  never_empty a f b [] v = let h : member (look w) next2 ≡ true = (S a f).opens b [] w v (w_in b) in absurd (let x : true ≡ false = sym h ∙ w_out in cc)
+  never_empty a f b (u ∷ us) v = omega arith
 
   begins : (ts : List Token) → member (look ts) ks ≡ true → 0 < length ts
   begins [] h = absurd (let x : true ≡ false = sym h ∙ no_end in cc)
@@ -62,18 +62,18 @@ module _ {A B : Type 0} {F F' : A → List Token → Type 0} {T T' : B → List 
   taken zero a s le h m e = absurd (omega (arith, begins s m, le))
   taken (suc k) a s le h m e = (k, refl, if_true _ _ h ∙ if_true _ _ e)
 
-  shrinks : (ts : List Token) (b : B) (r : List Token) → t ts ≡ Found b r → length r < length ts
-  shrinks ts b r e = go (S.outcome ts) e
+  shrinks : (a : A) → fits a ≡ true → (ts : List Token) (b : B) (r : List Token) → t ts ≡ Found b r → length r < length ts
+  shrinks a f ts b r e = go ((S a f).outcome ts) e
     where
       go : {x : Reply B} → Outcome T T' t ts x → x ≡ Found b r → length r < length ts
-      go (found b2 us r2 e2 l st) h = let same : r2 ≡ r = cc in omega (arith, ap length e2, length-append us r2, never_empty b2 us l, ap length same)
+      go (found b2 us r2 e2 l st) h = let same : r2 ≡ r = cc in omega (arith, ap length e2, length-append us r2, never_empty a f b2 us l, ap length same)
       go (wrong us r2 e2 al st) h = absurd cc
       go (deep us u r2 e2 al c ws v st) h = absurd cc
 
-  same_bind : (j k : ℕ) (a : A) (ts : List Token) (x : Reply B) → t ts ≡ x → ((b : B) (r : List Token) → length r < length ts → rest j (g a b) r ≡ rest k (g a b) r) → bind x (behind j a) ≡ bind x (behind k a)
-  same_bind j k a ts (Found b r) e ih = ih b r (shrinks ts b r e)
-  same_bind j k a ts (Wrong r) e ih = refl
-  same_bind j k a ts (Deep r) e ih = refl
+  same_bind : (j k : ℕ) (a : A) → fits a ≡ true → (ts : List Token) (x : Reply B) → t ts ≡ x → ((b : B) (r : List Token) → length r < length ts → rest j (g a b) r ≡ rest k (g a b) r) → bind x (behind j a) ≡ bind x (behind k a)
+  same_bind j k a f ts (Found b r) e ih = ih b r (shrinks a f ts b r e)
+  same_bind j k a f ts (Wrong r) e ih = refl
+  same_bind j k a f ts (Deep r) e ih = refl
 
   off_end : (a : A) → go_test a [] ≡ false
   off_end a = go (test a)
@@ -82,6 +82,10 @@ module _ {A B : Type 0} {F F' : A → List Token → Type 0} {T T' : B → List 
       go true = no_end
       go false = refl
 
+  same_round : (j k : ℕ) (a : A) (ts : List Token) (z : Bool) → fits a ≡ z → ((b : B) (r : List Token) → length r < length ts → rest j (g a b) r ≡ rest k (g a b) r) → (if go_test a ts then (if z then bind (t ts) (behind j a) else Deep ts) else Found a ts) ≡ (if go_test a ts then (if z then bind (t ts) (behind k a) else Deep ts) else Found a ts)
+  same_round j k a ts true e ih = ap (λ z. if go_test a ts then z else Found a ts) (same_bind j k a e ts (t ts) refl ih)
+  same_round j k a ts false e ih = refl
+
   -- as many rounds as there are tokens are enough
   pub enough : (j k : ℕ) (a : A) (ts : List Token) → length ts ≤ j → length ts ≤ k → rest j a ts ≡ rest k a ts
   enough zero zero a ts h i = refl
@@ -89,7 +93,7 @@ module _ {A B : Type 0} {F F' : A → List Token → Type 0} {T T' : B → List 
   enough (suc j) zero a [] h i = idle (suc j) a [] (off_end a)
   enough zero (suc k) a (u ∷ ts) h i = absurd (omega (arith, h))
   enough (suc j) zero a (u ∷ ts) h i = absurd (omega (arith, i))
-  enough (suc j) (suc k) a ts h i = ap (λ z. if go_test a ts then (if fits a then z else Deep ts) else Found a ts) (same_bind j k a ts (t ts) refl (λ b r lt. enough j k (g a b) r (omega (arith, h, lt)) (omega (arith, i, lt))))
+  enough (suc j) (suc k) a ts h i = same_round j k a ts (fits a) refl (λ b r lt. enough j k (g a b) r (omega (arith, h, lt)) (omega (arith, i, lt)))
 
   abbrev all : List Token → Reply A
   all = read_row test fits ks g p t
@@ -98,18 +102,18 @@ module _ {A B : Type 0} {F F' : A → List Token → Type 0} {T T' : B → List 
   round : (a : A) (b : B) (s r : List Token) → test a ≡ true → fits a ≡ true → member (look s) ks ≡ true → t s ≡ Found b r → rest (length s) a s ≡ rest (length r) (g a b) r
   round a b s r e f m h =
       let k = taken (length s) a s (omega arith) (on a s e m) m f in
-      k.2 ∙ ap (λ z. bind z (behind k.0 a)) h ∙ enough k.0 (length r) (g a b) r (omega (arith, k.1, shrinks s b r h)) (omega arith)
+      k.2 ∙ ap (λ z. bind z (behind k.0 a)) h ∙ enough k.0 (length r) (g a b) r (omega (arith, k.1, shrinks a f s b r h)) (omega arith)
 
   -- where the tokens behind may stand there, what is grown is read up to them
-  read_up : (a : A) (us s : List Token) → L a us → ((c : A) → member (look s) (follow c) ≡ true) → ((b : B) → member (look s) (follow2 b) ≡ true) → all (us ++ s) ≡ rest (length s) a s
+  read_up : (a : A) (us s : List Token) → L a us → ((c : A) → member (look s) (follow c) ≡ true) → ((c : A) (b : B) → a ≡ g c b → member (look s) (follow2 b) ≡ true) → all (us ++ s) ≡ rest (length s) a s
   unfolding L
   read_up a us s (start b vs l) f1 f2 = ap (λ z. bind z (λ a r. rest (length r) a r)) (R.complete b vs s l (f1 b))
   read_up a us s (more c b us1 vs d e1 e2 l) f1 f2 =
-      let o : member (look (vs ++ s)) next2 ≡ true = S.opens b vs s l (f2 b) in
+      let o : member (look (vs ++ s)) next2 ≡ true = (S c e2).opens b vs s l (f2 c b refl) in
       let m : member (look (vs ++ s)) ks ≡ true = member-subset _ next2 ks here o in
       ap all (append_assoc us1 vs s)
-      ∙ read_up c us1 (vs ++ s) d (λ x. member-subset _ ks (follow x) (goes x) m) (λ x. member-subset _ ks (follow2 x) (goes2 x) m)
-      ∙ round c b (vs ++ s) s e1 e2 m (S.complete b vs s l (f2 b))
+      ∙ read_up c us1 (vs ++ s) d (λ x. member-subset _ ks (follow x) (goes x) m) (λ x y e. member-subset _ ks (follow2 y) (goes2 x y (subst (λ z. test z ≡ true) e e1)) m)
+      ∙ round c b (vs ++ s) s e1 e2 m ((S c e2).complete b vs s l (f2 c b refl))
 
   not_on : (a : A) (s : List Token) → member (look s) ks ≡ false → go_test a s ≡ false
   not_on a s h = go (test a)
@@ -119,7 +123,7 @@ module _ {A B : Type 0} {F F' : A → List Token → Type 0} {T T' : B → List 
       go false = refl
 
   full : (a : A) (us r : List Token) → L a us → member (look r) after ≡ true → all (us ++ r) ≡ Found a r
-  full a us r l h = read_up a us r l (λ x. member-subset _ after (follow x) (ends x) h) (λ x. member-subset _ after (follow2 x) (ends2 x) h) ∙ idle (length r) a r (not_on a r (member-apart _ after ks stops h))
+  full a us r l h = read_up a us r l (λ x. member-subset _ after (follow x) (ends x) h) (λ x y e. member-subset _ after (follow2 y) (ends2 y) h) ∙ idle (length r) a r (not_on a r (member-apart _ after ks stops h))
 
   -- the loop's state, where a is grown from us and the rest of the rounds is to come
   Steady : A → List Token → List Token → Type 0
@@ -132,7 +136,7 @@ module _ {A B : Type 0} {F F' : A → List Token → Type 0} {T T' : B → List 
 
   widen : (a : A) (us : List Token) → L a us → V a us
   unfolding L V
-  widen = grown_mono R.wider S.wider mono
+  widen = grown_mono R.wider (λ a f. (S a f).wider) mono
 
   test_same : (a : A) (s ts : List Token) → look s ≡ look ts → go_test a s ≡ go_test a ts
   test_same a s ts h = ap (λ z. if test a then member z ks else false) h
@@ -141,7 +145,7 @@ module _ {A B : Type 0} {F F' : A → List Token → Type 0} {T T' : B → List 
   unfolding L V Steady
   next_turn k a us ts le l st e m f ih (found b vs r e2 tl st2) =
       subst (λ z. Outcome L V all z (rest k (g a b) r)) (append_assoc us vs r ∙ ap (λ z. us ++ z) (sym e2))
-      (ih b (us ++ vs) r (omega (arith, le, ap length e2, length-append vs r, never_empty b vs tl)) (more a b us vs l e f tl)
+      (ih b (us ++ vs) r (omega (arith, le, ap length e2, length-append vs r, never_empty a f b vs tl)) (more a b us vs l e f tl)
       (λ s h. ap all (append_assoc us vs s) ∙ st (vs ++ s) (look-same vs r s h ∙ ap look (sym e2))
       ∙ round a b (vs ++ s) s e f (same_test ks ts vs r s e2 m h) (st2 s h)))
   next_turn k a us ts le l st e m f ih (wrong vs r e2 al st2) =
@@ -174,7 +178,7 @@ module _ {A B : Type 0} {F F' : A → List Token → Type 0} {T T' : B → List 
   turn (suc k) a us ts le l st = go (λ b vs r. turn k (g a b) vs r) (test a) refl (member (look ts) ks) refl (fits a) refl
     where
       go : ((b : B) (vs r : List Token) → length r ≤ k → L (g a b) vs → Steady (g a b) vs r → Outcome L V all (vs ++ r) (rest k (g a b) r)) → (x : Bool) → test a ≡ x → (y : Bool) → member (look ts) ks ≡ y → (z : Bool) → fits a ≡ z → Outcome L V all (us ++ ts) (if (if x then y else false) then (if z then bind (t ts) (behind k a) else Deep ts) else Found a ts)
-      go ih true e true m true f = next_turn k a us ts le l st e m f ih (S.outcome ts)
+      go ih true e true m true f = next_turn k a us ts le l st e m f ih ((S a f).outcome ts)
       go ih true e true m false f = too_high a us ts l st e m f
       go ih true e false m z f = halted a us ts l st (if_true _ _ e ∙ m)
       go ih false e y m z f = halted a us ts l st (if_false _ _ e)
@@ -200,21 +204,21 @@ module _ {A B : Type 0} {F F' : A → List Token → Type 0} {T T' : B → List 
       go : ((b : B) (r : List Token) → Agree (rest k (g a b) r) (read_rest test fits' ks g t' k (g a b) r)) → (x z : Bool) → fits a ≡ z → Agree (if x then (if z then bind (t ts) (behind k a) else Deep ts) else Found a ts) (if x then (if fits' a then bind (t' ts) (λ b r. read_rest test fits' ks g t' k (g a b) r) else Deep ts) else Found a ts)
       go ih false z e = inl refl
       go ih true false e = inr (ts, refl)
-      go ih true true e = subst (λ w. Agree (bind (t ts) (behind k a)) w) (sym (if_true _ _ (mono a e))) (bind_agrees (behind k a) (λ b r. read_rest test fits' ks g t' k (g a b) r) (S.agrees ts) ih)
+      go ih true true e = subst (λ w. Agree (bind (t ts) (behind k a)) w) (sym (if_true _ _ (mono a e))) (bind_agrees (behind k a) (λ b r. read_rest test fits' ks g t' k (g a b) r) ((S a e).agrees ts) ih)
 
-  opening : (a : A) (us r : List Token) → L a us → ((c : A) → member (look r) (follow c) ≡ true) → ((b : B) → member (look r) (follow2 b) ≡ true) → member (look (us ++ r)) next ≡ true
+  opening : (a : A) (us r : List Token) → L a us → ((c : A) → member (look r) (follow c) ≡ true) → ((c : A) (b : B) → a ≡ g c b → member (look r) (follow2 b) ≡ true) → member (look (us ++ r)) next ≡ true
   unfolding L
   opening a us r (start b vs l) f1 f2 = R.opens b vs r l (f1 b)
   opening a us r (more c b us1 vs d e1 e2 l) f1 f2 =
-      let m : member (look (vs ++ r)) ks ≡ true = member-subset _ next2 ks here (S.opens b vs r l (f2 b)) in
-      ap (λ z. member (look z) next) (append_assoc us1 vs r) ∙ opening c us1 (vs ++ r) d (λ x. member-subset _ ks (follow x) (goes x) m) (λ x. member-subset _ ks (follow2 x) (goes2 x) m)
+      let m : member (look (vs ++ r)) ks ≡ true = member-subset _ next2 ks here ((S c e2).opens b vs r l (f2 c b refl)) in
+      ap (λ z. member (look z) next) (append_assoc us1 vs r) ∙ opening c us1 (vs ++ r) d (λ x. member-subset _ ks (follow x) (goes x) m) (λ x y e. member-subset _ ks (follow2 y) (goes2 x y (subst (λ z. test z ≡ true) e e1)) m)
 
   pub reads_row : Reads (Grown F T test fits g) (Grown F' T' test fits' g) (read_row test fits ks g p t) (read_row test fits' ks g q t') next (λ _. after)
   unfolding L V
   reads_row = record {
     complete = full;
     outcome = λ ts. first ts (R.outcome ts);
-    opens = λ a us r l h. opening a us r l (λ x. member-subset _ after (follow x) (ends x) h) (λ x. member-subset _ after (follow2 x) (ends2 x) h);
+    opens = λ a us r l h. opening a us r l (λ x. member-subset _ after (follow x) (ends x) h) (λ x y e. member-subset _ after (follow2 y) (ends2 y) h);
     wider = widen;
     some = (R.some.0, R.some.1, start R.some.0 R.some.1 R.some.2);
     agrees = λ ts. bind_agrees (λ a r. rest (length r) a r) (λ a r. read_rest test fits' ks g t' (length r) a r) (R.agrees ts) (λ a r. agree_rest (length r) a r);
@@ -252,4 +256,4 @@ pub reads_built : {A B : Type 0} {F F' : A → List Token → Type 0} {T T' : B 
     → Reads (built g F T) (built g F' T') (read_built ks g p t) (read_built ks g q t') next (λ _. after)
 reads_built {F = F} {F' = F'} {T = T} {T' = T'} R S ks g after w here goes ends goes2 ends2 stops no_end w_in w_out =
     reads_as (grown_built F T g) (built_grown F T g) (grown_built F' T' g)
-    (reads_row R S always always always ks g after w here goes ends goes2 ends2 stops no_end w_in w_out (λ a h. h) (λ a us l. refl) (λ a h u m. absurd (let x : true ≡ false = h in cc)))
+    (reads_row R always always always (λ a f. S) ks g after w here goes ends (λ a b h. goes2 b) ends2 stops no_end w_in w_out (λ a h. h) (λ a us l. refl) (λ a h u m. absurd (let x : true ≡ false = h in cc)))

@@ -5,3 +5,4 @@ pub mod Expressions
 pub mod Modules
 pub mod Promise
 pub mod Reading
+pub mod ExpressionReaders
