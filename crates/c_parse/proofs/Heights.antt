@@ -1,5 +1,5 @@
 -- What the index of the grammar of expressions has to do with heights.
-use Rattle.std.proofs.Common.{ℕ, zero, suc, ◌≡◌, ◌+◌, ◌<◌, ◌≤◌, max, refl, sym, subst, Bool, List, [], ◌∷◌, inl, inr, Option, Some, None, arith}
+use Rattle.std.proofs.Common.{ℕ, zero, suc, ◌≡◌, ◌+◌, ◌<◌, ◌≤◌, max, refl, sym, subst, Bool, true, false, List, [], ◌∷◌, inl, inr, Option, Some, None, arith}
 use Rattle.c_tree.specs.declared.token.Token.{Token}
 use Rattle.c_tree.specs.declared.token.Punct.TheVariants as p
 use Rattle.c_tree.specs.declared.token.Reserved.TheVariants as w
@@ -10,6 +10,8 @@ use Rattle.c_parse.specs.Classes.{punct, word}
 use Rattle.c_parse.specs.Languages.{Lang, picked, sign, among, both, either, made, optional, lead, trail, built}
 use Rattle.c_parse.specs.Trees.{Sized, add, one, all_or_none, name_of, constant_of, kind_constant, Suffix, Subscript, Arguments, named, paren, postfix, prefix, unary, cast, binary, conditional, assign, comma, enumerator, value_height, EnumRest, Tagged, Untagged, enum, specifier_word, first_specifier, next_specifier, specifiers}
 use Rattle.c_parse.specs.Expressions.{Rank, Comma, Assignment, Conditional, Binary, Cast, Unary, Postfix, operators, assignment_operators, steps, unary_operators, specifier_words, identifier, constant, parenthesised, bracketed, braced, row, IsEnumerator, IsEnum, IsSpecifier, IsSpecifiers, IsSuffix, IsPrimary, IsPostfix, IsUnary, IsCast, joined, IsProduct, IsSum, IsShift, IsRelation, IsEquality, IsAnd, IsXor, IsOr, IsLogicalAnd, IsLogicalOr, IsBinary, IsConditional, IsAssignment, IsComma, IsRank, IsExpr}
+use Rattle.c_parse.specs.ExpressionReaders.{Opened, Typed, Inner, opened}
+use Rattle.c_parse.proofs.Operands.{ParenL, CastOrParenL, PrefixedL, OperandL}
 use Rattle.c_parse.proofs.Maps.{On, Each, Any, Opt, on_same, on_made, on_both, on_either, on_optional, on_lead, on_trail, on_built, each_any, each_made, each_both, each_either, each_optional, each_lead, each_trail, each_built}
 
 -- a height of at most n
@@ -24,6 +26,10 @@ rest_height (Untagged es) = es.1
 abbrev pub suffix_height : Suffix → ℕ
 suffix_height (Subscript e) = e.1
 suffix_height (Arguments es) = es.1
+
+abbrev opened_height : Opened → ℕ
+opened_height (Typed c) = max c.0.1 c.1.1
+opened_height (Inner e) = e.1
 
 add_parts : {X : Type 0} (n : ℕ) (a : List X × ℕ) (b : X × ℕ) → max a.1 b.1 ≤ n → (a.1 ≤ n) × (b.1 ≤ n)
 add_parts n a b h = (omega (arith, h), omega (arith, h))
@@ -87,33 +93,63 @@ module _ (n : ℕ) {G H : Rank → Lang Sized} (f : (r : Rank) → On (Low n) (G
   named_low (x, Some (Subscript e)) h = under e.1 h
   named_low (x, Some (Arguments es)) h = under es.1 h
 
-  on_primary : On (Low (suc n)) (IsPrimary G) (IsPrimary H)
-  on_primary =
-      on_either (Low (suc n)) (on_made (λ c. Opt (λ s. suffix_height s ≤ n) c.1) (Low (suc n)) named named_low
+  pub on_named : On (Low (suc n)) (made named (both identifier (optional (IsSuffix G)))) (made named (both identifier (optional (IsSuffix H))))
+  on_named =
+      on_made (λ c. Opt (λ s. suffix_height s ≤ n) c.1) (Low (suc n)) named named_low
       (on_both Any (Opt (λ s. suffix_height s ≤ n)) (λ c. Opt (λ s. suffix_height s ≤ n) c.1) (λ c h. tt) (λ c h. h) (on_same Any identifier)
       (on_optional (λ s. suffix_height s ≤ n) (on_either (λ s. suffix_height s ≤ n)
       (on_made (Low n) (λ s. suffix_height s ≤ n) Subscript (λ c h. h) (on_inside (Low n) (punct p.OpenBracket) (punct p.CloseBracket) (f Comma)))
       (on_made (Low n) (λ s. suffix_height s ≤ n) Arguments (λ c h. h) (on_inside (Low n) (punct p.OpenParen) (punct p.CloseParen)
-      (on_made (Opt (Low n)) (Low n) all_or_none (all_low n) (on_optional (Low n) (on_row n (f Assignment))))))))))
-      (on_either (Low (suc n)) (on_same (Low (suc n)) constant)
-      (on_made (λ c. c.1.1 ≤ n) (Low (suc n)) paren (λ c h. under c.1.1 h)
-      (on_both Any (Low n) (λ c. c.1.1 ≤ n) (λ c h. tt) (λ c h. h) (on_same Any (sign (punct p.OpenParen))) (on_trail (Low n) (punct p.CloseParen) (f Comma)))))
+      (on_made (Opt (Low n)) (Low n) all_or_none (all_low n) (on_optional (Low n) (on_row n (f Assignment)))))))))
+
+  on_inner : On (Low n) (trail (G Comma) (punct p.CloseParen)) (trail (H Comma) (punct p.CloseParen))
+  on_inner = on_trail (Low n) (punct p.CloseParen) (f Comma)
+
+  on_paren : On (Low (suc n)) (ParenL G) (ParenL H)
+  on_paren = on_made (λ c. c.1.1 ≤ n) (Low (suc n)) paren (λ c h. under c.1.1 h)
+      (on_both Any (Low n) (λ c. c.1.1 ≤ n) (λ c h. tt) (λ c h. h) (on_same Any (sign (punct p.OpenParen))) on_inner)
+
+  on_primary : On (Low (suc n)) (IsPrimary G) (IsPrimary H)
+  on_primary = on_either (Low (suc n)) on_named (on_either (Low (suc n)) (on_same (Low (suc n)) constant) on_paren)
 
   on_postfix : On (Low (suc n)) (IsPostfix G) (IsPostfix H)
   on_postfix = on_either (Low (suc n)) on_primary
       (on_made (λ c. c.0.1 ≤ n) (Low (suc n)) (λ c. postfix c.0 c.1) (λ c h. under c.0.1 h)
       (on_both (Low n) Any (λ c. c.0.1 ≤ n) (λ c h. h) (λ c h. tt) (f Postfix) (on_same Any (among steps))))
 
+  on_prefix : On (Low (suc n)) (made prefix (both (among steps) (G Unary))) (made prefix (both (among steps) (H Unary)))
+  on_prefix = on_made (λ c. c.1.1 ≤ n) (Low (suc n)) prefix (λ c h. under c.1.1 h) (on_both Any (Low n) (λ c. c.1.1 ≤ n) (λ c h. tt) (λ c h. h) (on_same Any (among steps)) (f Unary))
+
+  on_sign : On (Low (suc n)) (made unary (both (among unary_operators) (G Cast))) (made unary (both (among unary_operators) (H Cast)))
+  on_sign = on_made (λ c. c.1.1 ≤ n) (Low (suc n)) unary (λ c h. under c.1.1 h) (on_both Any (Low n) (λ c. c.1.1 ≤ n) (λ c h. tt) (λ c h. h) (on_same Any (among unary_operators)) (f Cast))
+
   on_unary : On (Low (suc n)) (IsUnary G) (IsUnary H)
-  on_unary = on_either (Low (suc n)) on_postfix (on_either (Low (suc n))
-      (on_made (λ c. c.1.1 ≤ n) (Low (suc n)) prefix (λ c h. under c.1.1 h) (on_both Any (Low n) (λ c. c.1.1 ≤ n) (λ c h. tt) (λ c h. h) (on_same Any (among steps)) (f Unary)))
-      (on_made (λ c. c.1.1 ≤ n) (Low (suc n)) unary (λ c h. under c.1.1 h) (on_both Any (Low n) (λ c. c.1.1 ≤ n) (λ c h. tt) (λ c h. h) (on_same Any (among unary_operators)) (f Cast))))
+  on_unary = on_either (Low (suc n)) on_postfix (on_either (Low (suc n)) on_prefix on_sign)
 
   on_cast : On (Low (suc n)) (IsCast G) (IsCast H)
   on_cast = on_either (Low (suc n)) on_unary
       (on_made (λ c. Low n c.1.0 × Low n c.1.1) (Low (suc n)) cast (λ c h. (under_left c.1.0.1 c.1.1.1 h, under_right c.1.0.1 c.1.1.1 h))
       (on_both Any (λ d. Low n d.0 × Low n d.1) (λ c. Low n c.1.0 × Low n c.1.1) (λ c h. tt) (λ c h. h) (on_same Any (sign (punct p.OpenParen)))
       (on_both (Low n) (Low n) (λ d. Low n d.0 × Low n d.1) (λ c h. h.0) (λ c h. h.1) (on_trail (Low n) (punct p.CloseParen) (on_specifiers n (f Conditional))) (f Cast))))
+
+  opened_low : (c : ℕ × Opened) → (opened c).1 ≤ suc n → opened_height c.1 ≤ n
+  opened_low (l, Typed c) h = under (max c.0.1 c.1.1) h
+  opened_low (l, Inner e) h = under e.1 h
+
+  on_opened : On (Low (suc n)) (CastOrParenL G) (CastOrParenL H)
+  on_opened = on_made (λ c. opened_height c.1 ≤ n) (Low (suc n)) opened opened_low
+      (on_both Any (λ o. opened_height o ≤ n) (λ c. opened_height c.1 ≤ n) (λ c h. tt) (λ c h. h) (on_same Any (sign (punct p.OpenParen)))
+      (on_either (λ o. opened_height o ≤ n)
+      (on_made (λ d. Low n d.0 × Low n d.1) (λ o. opened_height o ≤ n) Typed (λ c h. (omega (arith, h), omega (arith, h)))
+      (on_both (Low n) (Low n) (λ d. Low n d.0 × Low n d.1) (λ c h. h.0) (λ c h. h.1) (on_trail (Low n) (punct p.CloseParen) (on_specifiers n (f Conditional))) (f Cast)))
+      (on_made (Low n) (λ o. opened_height o ≤ n) Inner (λ c h. h) on_inner)))
+
+  on_prefixed : On (Low (suc n)) (PrefixedL G) (PrefixedL H)
+  on_prefixed = on_either (Low (suc n)) on_prefix (on_either (Low (suc n)) on_sign (on_either (Low (suc n)) on_named (on_same (Low (suc n)) constant)))
+
+  pub on_operand : (b : Bool) → On (Low (suc n)) (OperandL G b) (OperandL H b)
+  on_operand true = on_either (Low (suc n)) on_opened on_prefixed
+  on_operand false = on_either (Low (suc n)) on_paren on_prefixed
 
   on_joined : (q : Precedence) (r : Rank) → On (Low (suc n)) (joined G q (G r)) (joined H q (H r))
   on_joined q r = on_made (λ c. Low n c.0 × Low n c.1.1) (Low (suc n)) (λ c. binary c.0 c.1) (λ c h. (under_left c.0.1 c.1.1.1 h, under_right c.0.1 c.1.1.1 h))

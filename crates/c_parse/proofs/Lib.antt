@@ -3,8 +3,10 @@ pub mod Readers
 pub mod Rows
 pub mod Forks
 pub mod Maps
+pub mod Operands
 pub mod Heights
 pub mod Bounds
 pub mod Chains
 pub mod Numbers
 pub mod Words
+pub mod Forms
