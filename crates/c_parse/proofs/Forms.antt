@@ -28,13 +28,13 @@ Layer : Type 0
 Layer = Expr-F Expr Specifier Enumerator Specifiers
 
 -- the tests on a node
-postfix_node : (x : Expr-F Expr Specifier Enumerator Specifiers) (h : ℕ) → is_postfix (node x h) ≡ postfix_layer x
+pub postfix_node : (x : Expr-F Expr Specifier Enumerator Specifiers) (h : ℕ) → is_postfix (node x h) ≡ postfix_layer x
 postfix_node x h = ap postfix_layer (out-roll-Expr x)
 
-unary_node : (x : Expr-F Expr Specifier Enumerator Specifiers) (h : ℕ) → is_unary (node x h) ≡ unary_layer x
+pub unary_node : (x : Expr-F Expr Specifier Enumerator Specifiers) (h : ℕ) → is_unary (node x h) ≡ unary_layer x
 unary_node x h = ap unary_layer (out-roll-Expr x)
 
-condition_node : (x : Expr-F Expr Specifier Enumerator Specifiers) (h : ℕ) → is_condition (node x h) ≡ closed_layer x
+pub condition_node : (x : Expr-F Expr Specifier Enumerator Specifiers) (h : ℕ) → is_condition (node x h) ≡ closed_layer x
 condition_node x h = ap closed_layer (out-roll-Expr x)
 
 abbrev True : (Sized → Bool) → Sized → Type 0
@@ -144,7 +144,7 @@ module _ (G : Rank → Lang Sized) where
   condition_logical_and : Each (True is_condition) (IsLogicalAnd G)
   condition_logical_and = condition_level LogicalAnd (G (Binary Or)) (IsOr G) condition_or
 
-  condition_logical_or : Each (True is_condition) (IsLogicalOr G)
+  pub condition_logical_or : Each (True is_condition) (IsLogicalOr G)
   condition_logical_or = condition_level LogicalOr (G (Binary LogicalAnd)) (IsLogicalAnd G) condition_logical_and
 
   -- of a rank, what passes the test is of the rank below
@@ -157,7 +157,7 @@ module _ (G : Rank → Lang Sized) where
   only_postfix_cast c ws (inl l) h = only_postfix c ws l h
   only_postfix_cast c ws (inr (d, e, l)) h = absurd (let x : false ≡ true = sym (ap is_postfix e ∙ postfix_node (Expr-F.Cast d.0 d.1.0.0 d.1.1.0) 0) ∙ h in cc)
 
-  only_condition : (c : Sized) (ws : List Token) → IsConditional G c ws → is_condition c ≡ true → IsLogicalOr G c ws
+  pub only_condition : (c : Sized) (ws : List Token) → IsConditional G c ws → is_condition c ≡ true → IsLogicalOr G c ws
   only_condition c ws (inl l) h = l
   only_condition c ws (inr (d, e, l)) h = absurd (let x : false ≡ true = sym (ap is_condition e ∙ condition_node _ 0) ∙ h in cc)
 
@@ -199,7 +199,7 @@ module _ (G : Rank → Lang Sized) where
   only_logical_or : (c : Sized) (ws : List Token) → IsLogicalOr G c ws → is_unary c ≡ true → IsUnary G c ws
   only_logical_or = only_level LogicalOr (G (Binary LogicalAnd)) (IsLogicalAnd G) only_logical_and
 
-  only_assignment : (c : Sized) (ws : List Token) → IsAssignment G c ws → is_unary c ≡ true → IsUnary G c ws
+  pub only_assignment : (c : Sized) (ws : List Token) → IsAssignment G c ws → is_unary c ≡ true → IsUnary G c ws
   only_assignment c ws (inl (inl l)) h = only_logical_or c ws l h
   only_assignment c ws (inl (inr (d, e, l))) h = absurd (let x : false ≡ true = sym (ap is_unary e ∙ unary_node _ 0) ∙ h in cc)
   only_assignment c ws (inr (d, e, l)) h = absurd (let x : false ≡ true = sym (ap is_unary e ∙ unary_node _ 0) ∙ h in cc)
@@ -208,11 +208,11 @@ module _ (G : Rank → Lang Sized) where
   pub unary_logical_or : (c : Sized) (ws : List Token) → IsUnary G c ws → IsLogicalOr G c ws
   unary_logical_or c ws l = inl (inl (inl (inl (inl (inl (inl (inl (inl (inl (inl l))))))))))
 
-  abbrev Low : Bool → Rank
+  abbrev pub Low : Bool → Rank
   Low true = Cast
   Low false = Unary
 
-  abbrev Stepped : Lang Sized → Lang Sized
+  abbrev pub Stepped : Lang Sized → Lang Sized
   Stepped L = made (λ d. postfix d.0 d.1) (both (such is_postfix L) (among steps))
 
   prefixed_unary : (c : Sized) (us : List Token) → PrefixedL G c us → IsUnary G c us
@@ -255,12 +255,12 @@ module _ (G : Rank → Lang Sized) where
   unary_out b up c us (inr (inl l)) = inl (prefix_operand b c us (inl l))
   unary_out b up c us (inr (inr l)) = inl (prefix_operand b c us (inr (inl l)))
 
-  rank_out : (b : Bool) (up : (c : Sized) (us : List Token) → G Postfix c us → such is_postfix (G (Low b)) c us) (c : Sized) (us : List Token) → IsRank G (Low b) c us → either (OperandL G b) (Stepped (G (Low b))) c us
+  pub rank_out : (b : Bool) (up : (c : Sized) (us : List Token) → G Postfix c us → such is_postfix (G (Low b)) c us) (c : Sized) (us : List Token) → IsRank G (Low b) c us → either (OperandL G b) (Stepped (G (Low b))) c us
   rank_out true up c us (inl l) = unary_out true up c us l
   rank_out true up c us (inr l) = inl (inl (cast_opened c us l))
   rank_out false up c us l = unary_out false up c us l
 
-  rank_into : (b : Bool) (down : (c : Sized) (us : List Token) → such is_postfix (G (Low b)) c us → G Postfix c us) (c : Sized) (us : List Token) → either (OperandL G b) (Stepped (G (Low b))) c us → IsRank G (Low b) c us
+  pub rank_into : (b : Bool) (down : (c : Sized) (us : List Token) → such is_postfix (G (Low b)) c us → G Postfix c us) (c : Sized) (us : List Token) → either (OperandL G b) (Stepped (G (Low b))) c us → IsRank G (Low b) c us
   rank_into b down c us (inl l) = operand_into b c us l
   rank_into true down c us (inr (d, e, (us1, us2, e2, k, s))) = inl (inl (inr (d, e, (us1, us2, e2, down d.0 us1 k, s))))
   rank_into false down c us (inr (d, e, (us1, us2, e2, k, s))) = inl (inr (d, e, (us1, us2, e2, down d.0 us1 k, s)))
@@ -275,12 +275,12 @@ empty r c us l = l
 next_height : (n : ℕ) (r : Rank) (c : Sized) (us : List Token) → IsExpr n r c us → IsExpr (suc n) r c us
 next_height n r c us l = higher n (suc n) (omega arith) r c us l
 
-postfix_up : (n : ℕ) (b : Bool) (c : Sized) (us : List Token) → IsExpr n Postfix c us → such is_postfix (IsExpr n (unary_rank b)) c us
+pub postfix_up : (n : ℕ) (b : Bool) (c : Sized) (us : List Token) → IsExpr n Postfix c us → such is_postfix (IsExpr n (unary_rank b)) c us
 postfix_up zero b c us l = absurd l
 postfix_up (suc n) true c us l = (postfix_postfix (IsExpr n) c us l, inl (inl l))
 postfix_up (suc n) false c us l = (postfix_postfix (IsExpr n) c us l, inl l)
 
-postfix_down : (n : ℕ) (b : Bool) (c : Sized) (us : List Token) → such is_postfix (IsExpr n (unary_rank b)) c us → IsExpr n Postfix c us
+pub postfix_down : (n : ℕ) (b : Bool) (c : Sized) (us : List Token) → such is_postfix (IsExpr n (unary_rank b)) c us → IsExpr n Postfix c us
 postfix_down zero b c us l = absurd l.1
 postfix_down (suc n) true c us l = only_postfix_cast (IsExpr n) c us l.1 l.0
 postfix_down (suc n) false c us l = only_postfix (IsExpr n) c us l.1 l.0

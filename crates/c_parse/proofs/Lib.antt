@@ -10,3 +10,4 @@ pub mod Chains
 pub mod Numbers
 pub mod Words
 pub mod Forms
+pub mod ExpressionRules

@@ -123,7 +123,7 @@ module _ {A : Type 0} (f : Token → Option A) (next : List ℕ) (exact : (t : T
   }
 
   -- a token, and then what there is none of at height 0
-  module _ {B : Type 0} {M W : B → List Token → Type 0} {p q : List Token → Reply B} {next2 : List ℕ} {follow : B → List ℕ} (n m : ℕ) (R : Reads M W p q next2 follow)
+  module _ {B : Type 0} {M W : B → List Token → Type 0} {p q : List Token → Reply B} {next2 : List ℕ} {follow : B → List ℕ} (n m : ℕ) (R : nat_eq n 0 ≡ false → Reads M W p q next2 follow) (others : (b : B) × (us : List Token) × W b us)
       (none : n ≡ 0 → (b : B) (us : List Token) → M b us → ⊥) (any : (n ≡ 0 → ⊥) → (b : B) × (us : List Token) × M b us) (pos : nat_eq m 0 ≡ false) (t : Token) (has : is_some (f t) ≡ true) where
     abbrev step : A → List Token → Reply (A × B)
     step a r = bind (p r) (λ b s. Found (a, b) s)
@@ -162,43 +162,46 @@ module _ {A : Type 0} (f : Token → Option A) (next : List ℕ) (exact : (t : T
         go : (x : Option A) → f t ≡ x → Outcome (both (picked f) M) (both (picked f) W) (read_both (read_open n f) p) (t ∷ ts) (bind (open_reply (nat_eq n 0) t ts x) step)
         go None e = wrong [] (t ∷ ts) refl (inl refl) (λ s h. ap (λ w. bind w step) (open_refuses n s (ap (λ z. member z next) h ∙ exact t ∙ ap is_some e)))
         go (Some a) e = subst (λ w. Outcome (both (picked f) M) (both (picked f) W) (read_both (read_open n f) p) (t ∷ ts) (bind w step)) (sym (if_true _ _ z))
-            (deep [] t ts refl (inl refl) (a, R.some.0) R.some.1 (t ∷ [], R.some.1, refl, (t, refl, e), R.some.2) (λ s h. ap (λ w. bind w step) (open_deep n s z (ap (λ z. member z next) h ∙ exact t ∙ ap is_some e))))
+            (deep [] t ts refl (inl refl) (a, others.0) others.1 (t ∷ [], others.1, refl, (t, refl, e), others.2) (λ s h. ap (λ w. bind w step) (open_deep n s z (ap (λ z. member z next) h ∙ exact t ∙ ap is_some e))))
 
     full : (c : A × B) (us r : List Token) → both (picked f) M c us → member (look r) (follow c.1) ≡ true → read_both (read_open n f) p (us ++ r) ≡ Found c r
     full c us r l h =
         let (us1, us2, e, (t, e1, ft), m) = l in
         ap (read_both (read_open n f) p) (ap (λ z. z ++ r) (e ∙ ap (λ z. z ++ us2) e1))
         ∙ ap (λ w. bind w step) (open_takes n t (us2 ++ r) c.0 (not_none c.1 us2 m) ft)
-        ∙ ap (λ w. bind w (λ b s. Found (c.0, b) s)) (R.complete c.1 us2 r m h)
+        ∙ ap (λ w. bind w (λ b s. Found (c.0, b) s)) ((R (not_none c.1 us2 m)).complete c.1 us2 r m h)
 
-    same_step : (a : A) (r : List Token) → Agree {A = A × B} (bind (p r) (λ b s. Found (a, b) s)) (bind (q r) (λ b s. Found (a, b) s))
-    same_step a r = bind_agrees (λ b s. Found (a, b) s) (λ b s. Found (a, b) s) (R.agrees r) (λ b s. inl refl)
+    same_step : (z : nat_eq n 0 ≡ false) (a : A) (r : List Token) → Agree {A = A × B} (bind (p r) (λ b s. Found (a, b) s)) (bind (q r) (λ b s. Found (a, b) s))
+    same_step z a r = bind_agrees (λ b s. Found (a, b) s) (λ b s. Found (a, b) s) ((R z).agrees r) (λ b s. inl refl)
 
-    same_open : (ts : List Token) → Agree (read_open n f ts) (read_open m f ts)
-    same_open [] = inl refl
-    same_open (t ∷ ts) = go (f t) (nat_eq n 0)
+    same_open : (z : Bool) → nat_eq n 0 ≡ z → (ts : List Token) → Agree {A = A × B} (read_both (read_open n f) p ts) (read_both (read_open m f) q ts)
+    same_open z e [] = inl refl
+    same_open z e (t ∷ ts) = subst (λ w. Agree {A = A × B} (bind (open_reply w t ts (f t)) step) (read_both (read_open m f) q (t ∷ ts))) (sym e) (go (f t) z e)
       where
-        go : (x : Option A) (z : Bool) → Agree (open_reply z t ts x) (open_reply (nat_eq m 0) t ts x)
-        go None z = inl refl
-        go (Some a) true = inr (t ∷ ts, refl)
-        go (Some a) false = inl (sym (if_false _ _ pos))
+        go : (x : Option A) (z : Bool) → nat_eq n 0 ≡ z → Agree {A = A × B} (bind (open_reply z t ts x) step) (bind (open_reply (nat_eq m 0) t ts x) (λ a r. bind (q r) (λ b s. Found (a, b) s)))
+        go None z e = inl refl
+        go (Some a) true e = inr (t ∷ ts, refl)
+        go (Some a) false e = subst (λ w. Agree {A = A × B} (step a ts) (bind w (λ a r. bind (q r) (λ b s. Found (a, b) s)))) (sym (if_false _ _ pos)) (same_step e a ts)
+
+    widened : (c : A × B) (us : List Token) → both (picked f) M c us → both (picked f) W c us
+    widened c us l = (l.0, l.1, l.2, l.3, (R (not_none c.1 l.1 l.4)).wider c.1 l.1 l.4)
 
     pub reads_opened : Reads (both (picked f) M) (both (picked f) W) (read_both (read_open n f) p) (read_both (read_open m f) q) next (λ c. follow c.1)
     reads_opened = record {
       complete = full;
       outcome = λ ts. go ts (nat_eq n 0) refl;
       opens = λ c us r l h. let (us1, us2, e, (t, e1, ft), m) = l in ap (λ z. member (look (z ++ r)) next) (e ∙ ap (λ z. z ++ us2) e1) ∙ exact t ∙ ap is_some ft;
-      wider = λ c us l. (l.0, l.1, l.2, l.3, R.wider c.1 l.1 l.4);
-      some = let x = some_front (f t) has in ((x.0, R.some.0), t ∷ R.some.1, (t ∷ [], R.some.1, refl, (t, refl, x.1), R.some.2));
-      agrees = λ ts. bind_agrees (λ a r. bind (p r) (λ b s. Found (a, b) s)) (λ a r. bind (q r) (λ b s. Found (a, b) s)) (same_open ts) same_step;
+      wider = widened;
+      some = let x = some_front (f t) has in ((x.0, others.0), t ∷ others.1, (t ∷ [], others.1, refl, (t, refl, x.1), others.2));
+      agrees = same_open (nat_eq n 0) refl;
     }
       where
         go : (ts : List Token) (x : Bool) → nat_eq n 0 ≡ x → Outcome (both (picked f) M) (both (picked f) W) (read_both (read_open n f) p) ts (read_both (read_open n f) p ts)
         go ts true z = zero_outcome z ts
         go ts false z =
             let some = any (λ e. let h : true ≡ false = sym (eq-eqb n 0 e) ∙ z in cc) in
-            bind_outcome (read_open n f) step (λ a us l. ((a, some.0), some.1, (us, some.1, refl, l, some.2))) (λ a us l. ((a, R.some.0), R.some.1, (us, R.some.1, refl, l, R.some.2))) (plain_outcome z ts)
-            (λ a us r l. bind_outcome p (λ b s. Found (a, b) s) (λ b us2 m. ((a, b), [], (us, us2, ap (λ z. us ++ z) (append-nil us2), l, m))) (λ b us2 m. ((a, b), [], (us, us2, ap (λ z. us ++ z) (append-nil us2), l, m))) (R.outcome r)
+            bind_outcome (read_open n f) step (λ a us l. ((a, some.0), some.1, (us, some.1, refl, l, some.2))) (λ a us l. ((a, others.0), others.1, (us, others.1, refl, l, others.2))) (plain_outcome z ts)
+            (λ a us r l. bind_outcome p (λ b s. Found (a, b) s) (λ b us2 m. ((a, b), [], (us, us2, ap (λ z. us ++ z) (append-nil us2), l, m))) (λ b us2 m. ((a, b), [], (us, us2, ap (λ z. us ++ z) (append-nil us2), l, m))) ((R z).outcome r)
             (λ b us2 r2 m. done (a, b) r2 (us, us2, ap (λ z. us ++ z) (append-nil us2), l, m)))
 
 module _ {A : Type 0} {L V : A → List Token → Type 0} {p q : List Token → Reply A} {next : List ℕ} {follow : A → List ℕ} (R : Reads L V p q next follow) where

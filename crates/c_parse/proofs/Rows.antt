@@ -18,7 +18,7 @@ grown_mono f t h a us (more c b us1 vs d e1 e2 l) = more c b us1 vs (grown_mono 
 
 module _ {A B : Type 0} {F F' : A → List Token → Type 0} {T T' : B → List Token → Type 0} {p q : List Token → Reply A} {t t' : List Token → Reply B} {next next2 : List ℕ} {follow : A → List ℕ} {follow2 : B → List ℕ}
     (R : Reads F F' p q next follow) (test fits fits' : A → Bool) (S : (a : A) → fits a ≡ true → Reads T T' t t' next2 follow2) (ks : List ℕ) (g : A → B → A) (after : List ℕ) (w : List Token)
-    (here : subset next2 ks ≡ true) (goes : (a : A) → subset ks (follow a) ≡ true) (ends : (a : A) → subset after (follow a) ≡ true)
+    (here : subset next2 ks ≡ true) (goes : (a : A) → test a ≡ true → subset ks (follow a) ≡ true) (ends : (a : A) → subset after (follow a) ≡ true)
     (goes2 : (a : A) (b : B) → test (g a b) ≡ true → subset ks (follow2 b) ≡ true) (ends2 : (b : B) → subset after (follow2 b) ≡ true)
     (stops : apart after ks ≡ true) (no_end : member 0 ks ≡ false) (w_in : (b : B) → member (look w) (follow2 b) ≡ true) (w_out : member (look w) next2 ≡ false)
     (mono : (a : A) → fits a ≡ true → fits' a ≡ true)
@@ -105,14 +105,14 @@ module _ {A B : Type 0} {F F' : A → List Token → Type 0} {T T' : B → List 
       k.2 ∙ ap (λ z. bind z (behind k.0 a)) h ∙ enough k.0 (length r) (g a b) r (omega (arith, k.1, shrinks a f s b r h)) (omega arith)
 
   -- where the tokens behind may stand there, what is grown is read up to them
-  read_up : (a : A) (us s : List Token) → L a us → ((c : A) → member (look s) (follow c) ≡ true) → ((c : A) (b : B) → a ≡ g c b → member (look s) (follow2 b) ≡ true) → all (us ++ s) ≡ rest (length s) a s
+  read_up : (a : A) (us s : List Token) → L a us → member (look s) (follow a) ≡ true → ((c : A) (b : B) → a ≡ g c b → member (look s) (follow2 b) ≡ true) → all (us ++ s) ≡ rest (length s) a s
   unfolding L
-  read_up a us s (start b vs l) f1 f2 = ap (λ z. bind z (λ a r. rest (length r) a r)) (R.complete b vs s l (f1 b))
+  read_up a us s (start b vs l) f1 f2 = ap (λ z. bind z (λ a r. rest (length r) a r)) (R.complete b vs s l f1)
   read_up a us s (more c b us1 vs d e1 e2 l) f1 f2 =
       let o : member (look (vs ++ s)) next2 ≡ true = (S c e2).opens b vs s l (f2 c b refl) in
       let m : member (look (vs ++ s)) ks ≡ true = member-subset _ next2 ks here o in
       ap all (append_assoc us1 vs s)
-      ∙ read_up c us1 (vs ++ s) d (λ x. member-subset _ ks (follow x) (goes x) m) (λ x y e. member-subset _ ks (follow2 y) (goes2 x y (subst (λ z. test z ≡ true) e e1)) m)
+      ∙ read_up c us1 (vs ++ s) d (member-subset _ ks (follow c) (goes c e1) m) (λ x y e. member-subset _ ks (follow2 y) (goes2 x y (subst (λ z. test z ≡ true) e e1)) m)
       ∙ round c b (vs ++ s) s e1 e2 m ((S c e2).complete b vs s l (f2 c b refl))
 
   not_on : (a : A) (s : List Token) → member (look s) ks ≡ false → go_test a s ≡ false
@@ -123,7 +123,7 @@ module _ {A B : Type 0} {F F' : A → List Token → Type 0} {T T' : B → List 
       go false = refl
 
   full : (a : A) (us r : List Token) → L a us → member (look r) after ≡ true → all (us ++ r) ≡ Found a r
-  full a us r l h = read_up a us r l (λ x. member-subset _ after (follow x) (ends x) h) (λ x y e. member-subset _ after (follow2 y) (ends2 y) h) ∙ idle (length r) a r (not_on a r (member-apart _ after ks stops h))
+  full a us r l h = read_up a us r l (member-subset _ after (follow a) (ends a) h) (λ x y e. member-subset _ after (follow2 y) (ends2 y) h) ∙ idle (length r) a r (not_on a r (member-apart _ after ks stops h))
 
   -- the loop's state, where a is grown from us and the rest of the rounds is to come
   Steady : A → List Token → List Token → Type 0
@@ -206,19 +206,19 @@ module _ {A B : Type 0} {F F' : A → List Token → Type 0} {T T' : B → List 
       go ih true false e = inr (ts, refl)
       go ih true true e = subst (λ w. Agree (bind (t ts) (behind k a)) w) (sym (if_true _ _ (mono a e))) (bind_agrees (behind k a) (λ b r. read_rest test fits' ks g t' k (g a b) r) ((S a e).agrees ts) ih)
 
-  opening : (a : A) (us r : List Token) → L a us → ((c : A) → member (look r) (follow c) ≡ true) → ((c : A) (b : B) → a ≡ g c b → member (look r) (follow2 b) ≡ true) → member (look (us ++ r)) next ≡ true
+  opening : (a : A) (us r : List Token) → L a us → member (look r) (follow a) ≡ true → ((c : A) (b : B) → a ≡ g c b → member (look r) (follow2 b) ≡ true) → member (look (us ++ r)) next ≡ true
   unfolding L
-  opening a us r (start b vs l) f1 f2 = R.opens b vs r l (f1 b)
+  opening a us r (start b vs l) f1 f2 = R.opens b vs r l f1
   opening a us r (more c b us1 vs d e1 e2 l) f1 f2 =
       let m : member (look (vs ++ r)) ks ≡ true = member-subset _ next2 ks here ((S c e2).opens b vs r l (f2 c b refl)) in
-      ap (λ z. member (look z) next) (append_assoc us1 vs r) ∙ opening c us1 (vs ++ r) d (λ x. member-subset _ ks (follow x) (goes x) m) (λ x y e. member-subset _ ks (follow2 y) (goes2 x y (subst (λ z. test z ≡ true) e e1)) m)
+      ap (λ z. member (look z) next) (append_assoc us1 vs r) ∙ opening c us1 (vs ++ r) d (member-subset _ ks (follow c) (goes c e1) m) (λ x y e. member-subset _ ks (follow2 y) (goes2 x y (subst (λ z. test z ≡ true) e e1)) m)
 
   pub reads_row : Reads (Grown F T test fits g) (Grown F' T' test fits' g) (read_row test fits ks g p t) (read_row test fits' ks g q t') next (λ _. after)
   unfolding L V
   reads_row = record {
     complete = full;
     outcome = λ ts. first ts (R.outcome ts);
-    opens = λ a us r l h. opening a us r l (λ x. member-subset _ after (follow x) (ends x) h) (λ x y e. member-subset _ after (follow2 y) (ends2 y) h);
+    opens = λ a us r l h. opening a us r l (member-subset _ after (follow a) (ends a) h) (λ x y e. member-subset _ after (follow2 y) (ends2 y) h);
     wider = widen;
     some = (R.some.0, R.some.1, start R.some.0 R.some.1 R.some.2);
     agrees = λ ts. bind_agrees (λ a r. rest (length r) a r) (λ a r. read_rest test fits' ks g t' (length r) a r) (R.agrees ts) (λ a r. agree_rest (length r) a r);
@@ -256,4 +256,4 @@ pub reads_built : {A B : Type 0} {F F' : A → List Token → Type 0} {T T' : B 
     → Reads (built g F T) (built g F' T') (read_built ks g p t) (read_built ks g q t') next (λ _. after)
 reads_built {F = F} {F' = F'} {T = T} {T' = T'} R S ks g after w here goes ends goes2 ends2 stops no_end w_in w_out =
     reads_as (grown_built F T g) (built_grown F T g) (grown_built F' T' g)
-    (reads_row R always always always (λ a f. S) ks g after w here goes ends (λ a b h. goes2 b) ends2 stops no_end w_in w_out (λ a h. h) (λ a us l. refl) (λ a h u m. absurd (let x : true ≡ false = h in cc)))
+    (reads_row R always always always (λ a f. S) ks g after w here (λ a h. goes a) ends (λ a b h. goes2 b) ends2 stops no_end w_in w_out (λ a h. h) (λ a us l. refl) (λ a h u m. absurd (let x : true ≡ false = h in cc)))

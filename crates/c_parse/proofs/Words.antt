@@ -1,19 +1,21 @@
 -- The readers of the words that are made of others.
-use Rattle.std.proofs.Common.{ℕ, ◌≡◌, refl, sym, ◌∙◌, ap, subst, Bool, true, false, nat_eq, if◌then◌else◌, List, [], ◌∷◌, ◌++◌, inl, inr, Option, Some, None, is_some, eq-eqb}
+use Rattle.std.proofs.Common.{ℕ, ◌≡◌, refl, sym, ◌∙◌, ap, subst, Bool, true, false, nat_eq, if◌then◌else◌, List, [], ◌∷◌, ◌++◌, append-nil, inl, inr, Option, Some, None, is_some, eq-eqb}
 use Rattle.c_tree.specs.declared.token.Token.{Token}
 use Rattle.c_tree.specs.declared.token.TokenKind.{TokenKind}
 use Rattle.c_tree.specs.declared.token.TokenKind.TheVariants as kinds
 use Rattle.c_tree.specs.declared.token.Punct.{Punct}
+use Rattle.c_tree.specs.declared.token.Punct.TheVariants as p
 use Rattle.c_tree.specs.declared.token.Reserved.{Reserved}
 use Rattle.c_tree.specs.declared.expression.Identifier.{Identifier}
 use Rattle.hlo_num.specs.declared.word.Ty.TheVariants.{Int}
 use Rattle.c_parse.proofs.Numbers.{name_exact, constant_exact}
 use Rattle.c_parse.specs.Classes.{class, kind_class, punct, word, look, member, row_of, classes}
-use Rattle.c_parse.specs.Languages.{Lang, picked, line_if, lined, sign, among, both, either, made, absent, optional, lead, trail}
+use Rattle.c_parse.specs.Languages.{Lang, picked, line_if, lined, sign, among, both, either, made, absent, optional, lead, trail, built}
 use Rattle.c_parse.specs.Trees.{Sized, kind_name, name_of, kind_constant, constant_of}
 use Rattle.c_parse.specs.Expressions.{identifier, constant}
-use Rattle.c_parse.specs.Reading.{Reply, read_picked, read_sign, read_among, read_open, read_both, read_made, read_either, read_absent, read_optional, read_lead, read_trail, read_open_lead}
+use Rattle.c_parse.specs.Reading.{Reply, read_picked, read_sign, read_among, read_open, read_both, read_made, read_either, read_absent, read_optional, read_lead, read_trail, read_open_lead, read_built}
 use Rattle.c_parse.proofs.Members.{subset, apart, if_true, member-subset, member-left, member-right, member-self, among_exact, sign_exact}
+use Rattle.c_parse.proofs.Rows.{reads_built}
 use Rattle.c_parse.proofs.Readers.{Reads, reads_picked, reads_opened, reads_made, reads_both, reads_either, reads_absent, some_front}
 
 pub subset_of : (xs ys : List ℕ) → ((k : ℕ) → member k xs ≡ true → member k ys ≡ true) → subset xs ys ≡ true
@@ -70,12 +72,23 @@ reads_identifier follow = reads_picked name_of (1 ∷ []) name_exact refl (token
 pub reads_constant : (follow : Sized → List ℕ) → Reads constant constant (read_picked constant_of) (read_picked constant_of) (2 ∷ []) follow
 reads_constant follow = reads_picked constant_of (2 ∷ []) constant_exact refl (token (kinds.Constant (record { 0 = 0 }) Int)) refl follow
 
-module _ {A : Type 0} {L V : A → List Token → Type 0} {p q : List Token → Reply A} {next : List ℕ} {follow : A → List ℕ} (R : Reads L V p q next follow) where
-  pub reads_lead : (t : Token) → nat_eq 0 (class t) ≡ false → Some_of L → Reads (lead (class t) L) (lead (class t) V) (read_lead (class t) p) (read_lead (class t) q) (class t ∷ []) follow
+module _ {A : Type 0} {L V : A → List Token → Type 0} {r q : List Token → Reply A} {next : List ℕ} {follow : A → List ℕ} (R : Reads L V r q next follow) where
+  pub reads_lead : (t : Token) → nat_eq 0 (class t) ≡ false → Some_of L → Reads (lead (class t) L) (lead (class t) V) (read_lead (class t) r) (read_lead (class t) q) (class t ∷ []) follow
   reads_lead t pos any = reads_made (reads_both (reads_sign t pos (λ _. next)) R (λ a us l. any) (λ a. subset_self next)) (λ c. c.1) follow (λ c k h. h)
 
-  pub reads_trail : (t : Token) → nat_eq 0 (class t) ≡ false → (after : List ℕ) → ((a : A) → member (class t) (follow a) ≡ true) → Reads (trail L (class t)) (trail V (class t)) (read_trail p (class t)) (read_trail q (class t)) next (λ _. after)
+  pub reads_trail : (t : Token) → nat_eq 0 (class t) ≡ false → (after : List ℕ) → ((a : A) → member (class t) (follow a) ≡ true) → Reads (trail L (class t)) (trail V (class t)) (read_trail r (class t)) (read_trail q (class t)) next (λ _. after)
   reads_trail t pos after has = reads_made (reads_both R (reads_sign t pos (λ _. after)) (λ a us l. some_sign t) (λ a. if_true _ _ (has a))) (λ c. c.0) (λ _. after) (λ c k h. h)
 
-  pub reads_optional : (ks after : List ℕ) → subset next ks ≡ true → apart after ks ≡ true → ((a : A) → subset after (follow a) ≡ true) → Reads (optional L) (optional V) (read_optional ks p) (read_optional ks q) (next ++ after) (λ _. after)
+  pub reads_optional : (ks after : List ℕ) → subset next ks ≡ true → apart after ks ≡ true → ((a : A) → subset after (follow a) ≡ true) → Reads (optional L) (optional V) (read_optional ks r) (read_optional ks q) (next ++ after) (λ _. after)
   reads_optional ks after here away ends = reads_either (reads_made R Some (λ _. after) (λ a k h. member-subset k after (follow a) (ends a) h)) (reads_absent None after) ks here away
+
+  -- a list of L with commas between, made by a first element and one after another
+  pub reads_listed : {B : Type 0} (first : A → B) (g : B → A → B) (after : List ℕ) (w : List Token) → Some_of L → ((a : A) → subset (punct p.Comma ∷ after) (follow a) ≡ true) → apart after (punct p.Comma ∷ []) ≡ true → member (look w) after ≡ true → member (look w) (punct p.Comma ∷ []) ≡ false
+      → Reads (built g (made first L) (lead (punct p.Comma) L)) (built g (made first V) (lead (punct p.Comma) V)) (read_built (punct p.Comma ∷ []) g (read_made first r) (read_lead (punct p.Comma) r)) (read_built (punct p.Comma ∷ []) g (read_made first q) (read_lead (punct p.Comma) q)) next (λ _. after)
+  reads_listed first g after w any fits stops w_in w_out = reads_built (reads_made R first (λ _. punct p.Comma ∷ after) (λ a k h. member-subset k (punct p.Comma ∷ after) (follow a) (fits a) h)) (reads_lead (mark p.Comma) refl any) (punct p.Comma ∷ []) g after w refl
+      (λ a. refl) (λ a. subset_right (punct p.Comma ∷ []) after) (λ a. subset_of (punct p.Comma ∷ []) (follow a) (λ k h. member-subset k (punct p.Comma ∷ after) (follow a) (fits a) (member-left k (punct p.Comma ∷ []) after h)))
+      (λ a. subset_of after (follow a) (λ k h. member-subset k (punct p.Comma ∷ after) (follow a) (fits a) (member-right k (punct p.Comma ∷ []) after h))) stops refl (λ a. member-subset (look w) (punct p.Comma ∷ after) (follow a) (fits a) (member-right (look w) (punct p.Comma ∷ []) after w_in)) w_out
+
+-- a list that isn't empty is there where an element is
+pub some_listed : {A B : Type 0} {L : A → List Token → Type 0} (first : A → B) (g : B → A → B) → Some_of L → Some_of (built g (made first L) (lead (punct p.Comma) L))
+some_listed first g x = (first x.0, x.1, ((first x.0, []), refl, (x.1, [], sym (append-nil x.1), (x.0, refl, x.2), refl)))
