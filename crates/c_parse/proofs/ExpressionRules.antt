@@ -142,13 +142,13 @@ pub any_expr : (n : ℕ) (r : Rank) → nat_eq n 0 ≡ false → Some_of (IsExpr
 any_expr zero r h = absurd (let x : true ≡ false = h in cc)
 any_expr (suc n) r h = (leaf, one_token ∷ [], leaf_rank (IsExpr n) r)
 
-none_expr : (n : ℕ) (r : Rank) → n ≡ 0 → (c : Sized) (us : List Token) → IsExpr n r c us → ⊥
+pub none_expr : (n : ℕ) (r : Rank) → n ≡ 0 → (c : Sized) (us : List Token) → IsExpr n r c us → ⊥
 none_expr n r e c us l = subst (λ k. IsExpr k r c us) e l
 
-not_zero : (n : ℕ) → (n ≡ 0 → ⊥) → nat_eq n 0 ≡ false
+pub not_zero : (n : ℕ) → (n ≡ 0 → ⊥) → nat_eq n 0 ≡ false
 not_zero n h = ne_eqb n 0 h
 
-above_zero : (n m : ℕ) → n < m → nat_eq m 0 ≡ false
+pub above_zero : (n m : ℕ) → n < m → nat_eq m 0 ≡ false
 above_zero n m lt = ne_eqb m 0 (λ e. omega (arith, e, lt))
 
 abbrev after_specifiers : List ℕ
@@ -527,10 +527,10 @@ module _ (n m : ℕ) (lt : suc n < m) (R : (r : Rank) → IsRead r → Reads (Is
   reads_operand false = reads_either reads_paren reads_prefixed (punct p.OpenParen ∷ []) refl refl
 
   -- what is grown from parts that fit is never too high for m
-  low_enough : {X : Type 0} (c : X × ℕ) → c.1 ≤ suc n → fits m c ≡ true
+  pub low_enough : {X : Type 0} (c : X × ℕ) → c.1 ≤ suc n → fits m c ≡ true
   low_enough c h = le_fits m c (omega (arith, lt)) (omega (arith, h, lt))
 
-  mono : {X : Type 0} (c : X × ℕ) → fits n c ≡ true → fits m c ≡ true
+  pub mono : {X : Type 0} (c : X × ℕ) → fits n c ≡ true → fits m c ≡ true
   mono c h = fits_mono n m c (omega (arith, lt)) h
 
   abbrev StepL : Lang (Step × ℕ)
@@ -549,7 +549,7 @@ module _ (n m : ℕ) (lt : suc n < m) (R : (r : Rank) → IsRead r → Reads (Is
       (λ j c us l. unary_in j b c us l) (λ j c us l. unary_fro j b c us l) (λ j c us l h. lowers j (unary_rank b) c us l h) (λ j c us l. bounded j (unary_rank b) c us l)
       (λ j c us l. on_operand c.1 (λ r d vs x h. higher j (suc j) (omega arith) r d vs x) b c us l (omega arith)) (λ j d us l. l) k c us l
 
-  reads_unary : (b : Bool) → Reads (IsExpr (suc n) (unary_rank b)) (IsExpr (suc m) (unary_rank b)) (read_unary n (read_expr n) b) (read_unary m (read_expr m) b) (punct p.OpenParen ∷ classes steps ++ classes unary_operators ++ 1 ∷ 2 ∷ []) (λ _. after_cast)
+  pub reads_unary : (b : Bool) → Reads (IsExpr (suc n) (unary_rank b)) (IsExpr (suc m) (unary_rank b)) (read_unary n (read_expr n) b) (read_unary m (read_expr m) b) (punct p.OpenParen ∷ classes steps ++ classes unary_operators ++ 1 ∷ 2 ∷ []) (λ _. after_cast)
   unfolding operand_follow
   reads_unary b = reads_as (unary_to b n) (unary_from b n) (unary_to b m)
       (reads_row (reads_operand b) is_postfix (fits n) (fits m) (λ a f. reads_among steps refl (mark p.Increment) refl (λ _. after_operand)) (classes steps) postfix after_cast (mark p.CloseParen ∷ []) refl

@@ -11,3 +11,4 @@ pub mod Numbers
 pub mod Words
 pub mod Forms
 pub mod ExpressionRules
+pub mod Ranks
