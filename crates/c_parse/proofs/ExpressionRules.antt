@@ -151,7 +151,7 @@ not_zero n h = ne_eqb n 0 h
 pub above_zero : (n m : ℕ) → n < m → nat_eq m 0 ≡ false
 above_zero n m lt = ne_eqb m 0 (λ e. omega (arith, e, lt))
 
-abbrev after_specifiers : List ℕ
+abbrev pub after_specifiers : List ℕ
 after_specifiers = 1 ∷ punct p.Semicolon ∷ punct p.CloseParen ∷ punct p.Comma ∷ []
 
 abbrev after_specifier : List ℕ

@@ -12,3 +12,4 @@ pub mod Words
 pub mod Forms
 pub mod ExpressionRules
 pub mod Ranks
+pub mod DeclarationRules

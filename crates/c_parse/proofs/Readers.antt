@@ -281,3 +281,14 @@ reads_absent c next = record {
   some = (c, [], (refl, refl));
   agrees = λ ts. inl refl;
 }
+
+-- no token, where what may follow depends on the value
+pub reads_absent_by : {A : Type 0} (c : A) (follow : A → List ℕ) → Reads (absent c) (absent c) (read_absent c) (read_absent c) (follow c) follow
+reads_absent_by c follow = record {
+  complete = λ a us r l h. ap (λ z. Found c (z ++ r)) l.1 ∙ ap (λ z. Found z r) (sym l.0);
+  outcome = λ ts. done c ts (refl, refl);
+  opens = λ a us r l h. ap (λ z. member (look (z ++ r)) (follow c)) l.1 ∙ subst (λ z. member (look r) (follow z) ≡ true) l.0 h;
+  wider = λ a us l. l;
+  some = (c, [], (refl, refl));
+  agrees = λ ts. inl refl;
+}

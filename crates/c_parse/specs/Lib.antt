@@ -6,3 +6,4 @@ pub mod Modules
 pub mod Promise
 pub mod Reading
 pub mod ExpressionReaders
+pub mod ModuleReaders

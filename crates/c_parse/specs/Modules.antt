@@ -64,8 +64,8 @@ module _ (n : ℕ) where
   -- init = assign | "{" assign {"," assign} [","] "}"
   abbrev pub IsInitialiser : Lang Initialiser
   IsInitialiser =
-      either (made initialisers.Value (tree (IsExpr n Assignment)))
-      (made elements (both (sign (punct p.OpenBrace)) (trail IsElements (punct p.CloseBrace))))
+      either (made elements (both (sign (punct p.OpenBrace)) (trail IsElements (punct p.CloseBrace))))
+      (made initialisers.Value (tree (IsExpr n Assignment)))
 
   -- decl = name ["[" [cond] "]" | "(" params ")"] ["=" init]
   abbrev pub IsDeclarator : Lang Declarator
