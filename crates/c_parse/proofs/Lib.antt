@@ -13,3 +13,4 @@ pub mod Forms
 pub mod ExpressionRules
 pub mod Ranks
 pub mod DeclarationRules
+pub mod StatementRules

@@ -48,6 +48,14 @@ bind_agrees k k' {x = Wrong r} (inl e) h = inl (ap (λ z. bind z k') e)
 bind_agrees k k' {x = Deep r} (inl e) h = inl (ap (λ z. bind z k') e)
 bind_agrees k k' (inr (r, e)) h = inr (r, ap (λ z. bind z k) e)
 
+-- the same where what the first found is of its language
+pub found_agrees : {A B : Type 0} {L V : A → List Token → Type 0} {p : List Token → Reply A} {ts : List Token} (k k' : A → List Token → Reply B) {x y : Reply A} → Outcome L V p ts x → Agree x y → ((a : A) (us r : List Token) → L a us → Agree (k a r) (k' a r)) → Agree (bind x k) (bind y k')
+found_agrees k k' (found a us r e l s) (inl h) next = subst (λ z. Agree (k a r) (bind z k')) h (next a us r l)
+found_agrees k k' (found a us r e l s) (inr (u, h)) next = inr (u, ap (λ z. bind z k) h)
+found_agrees k k' (wrong us r e al s) (inl h) next = inl (ap (λ z. bind z k') h)
+found_agrees k k' (wrong us r e al s) (inr (u, h)) next = inr (u, ap (λ z. bind z k) h)
+found_agrees k k' (deep us t r e al c ws v s) h next = inr (t ∷ r, refl)
+
 module _ {A B : Type 0} (L : A → List Token → Type 0) (L' : B → List Token → Type 0) (here : (a : A) (us : List Token) → L a us → (b : B) × (vs : List Token) × L' b (us ++ vs)) where
   alive_after : (a : A) (us us2 : List Token) → L a us → Alive (λ b ws. L' b (us ++ ws)) us2 → Alive L' (us ++ us2)
   alive_after a us us2 l (inl e) = let h = here a us l in inr (h.0, h.1, subst (λ z. L' h.0 (z ++ h.1)) (sym (ap (λ z. us ++ z) e ∙ append-nil us)) h.2)

@@ -47,7 +47,7 @@ reserved r = token (kinds.Word r)
 abbrev pub Some_of : {A : Type 0} → (A → List Token → Type 0) → Type 0
 Some_of {A} L = (a : A) × (us : List Token) × L a us
 
-has_line : (t : Token) → is_some (line_if (class t) t) ≡ true
+pub has_line : (t : Token) → is_some (line_if (class t) t) ≡ true
 has_line t = ap is_some (if_true (Some t.line) None (eq-eqb (class t) (class t) refl))
 
 pub some_sign : (t : Token) → Some_of (sign (class t))
