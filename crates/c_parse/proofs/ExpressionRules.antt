@@ -333,7 +333,7 @@ up_rank G Cast i c ws l = inl l
 up_rank G Unary i c ws l = l
 up_rank G Postfix i c ws l = absurd i
 
-outside_append : (k : ℕ) (xs ys : List ℕ) → member k xs ≡ false → member k ys ≡ false → member k (xs ++ ys) ≡ false
+pub outside_append : (k : ℕ) (xs ys : List ℕ) → member k xs ≡ false → member k ys ≡ false → member k (xs ++ ys) ≡ false
 outside_append k [] ys a b = b
 outside_append k (x ∷ xs) ys a b = go (nat_eq k x) a (outside_append k xs ys)
   where

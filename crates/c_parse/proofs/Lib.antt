@@ -14,3 +14,4 @@ pub mod ExpressionRules
 pub mod Ranks
 pub mod DeclarationRules
 pub mod StatementRules
+pub mod ModuleRules

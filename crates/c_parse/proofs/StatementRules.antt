@@ -68,46 +68,46 @@ while_behind true = refl
 while_behind false = refl
 
 -- which statements are closed
-closed_if : (c : ℕ × (Expr × Stmt)) → closed (if_only c) ≡ false
+pub closed_if : (c : ℕ × (Expr × Stmt)) → closed (if_only c) ≡ false
 closed_if c = fold-roll-Stmt Bool Bool closed_layer (λ b. true) (Stmt-F.If c.0 c.1.0 c.1.1)
 
-closed_else : (c : (ℕ × (Expr × Stmt)) × Stmt) → closed (if_else c) ≡ closed c.1
+pub closed_else : (c : (ℕ × (Expr × Stmt)) × Stmt) → closed (if_else c) ≡ closed c.1
 closed_else c = fold-roll-Stmt Bool Bool closed_layer (λ b. true) (Stmt-F.IfElse c.0.0 c.0.1.0 c.0.1.1 c.1)
 
-closed_switch : (c : ℕ × (Expr × Stmt)) → closed (switch c) ≡ closed c.1.1
+pub closed_switch : (c : ℕ × (Expr × Stmt)) → closed (switch c) ≡ closed c.1.1
 closed_switch c = fold-roll-Stmt Bool Bool closed_layer (λ b. true) (Stmt-F.Switch c.0 c.1.0 c.1.1)
 
-closed_while : (c : ℕ × (Expr × Stmt)) → closed (while c) ≡ closed c.1.1
+pub closed_while : (c : ℕ × (Expr × Stmt)) → closed (while c) ≡ closed c.1.1
 closed_while c = fold-roll-Stmt Bool Bool closed_layer (λ b. true) (Stmt-F.While c.0 c.1.0 c.1.1)
 
-closed_for : (c : ℕ × ((Option Expr × (Option Expr × Option Expr)) × Stmt)) → closed (for c) ≡ closed c.1.1
+pub closed_for : (c : ℕ × ((Option Expr × (Option Expr × Option Expr)) × Stmt)) → closed (for c) ≡ closed c.1.1
 closed_for c = fold-roll-Stmt Bool Bool closed_layer (λ b. true) (Stmt-F.For c.0 c.1.0.0 c.1.0.1.0 c.1.0.1.1 c.1.1)
 
-closed_case : (c : ℕ × (Expr × Stmt)) → closed (case c) ≡ closed c.1.1
+pub closed_case : (c : ℕ × (Expr × Stmt)) → closed (case c) ≡ closed c.1.1
 closed_case c = fold-roll-Stmt Bool Bool closed_layer (λ b. true) (Stmt-F.Case c.0 c.1.0 c.1.1)
 
-closed_default : (c : ℕ × Stmt) → closed (default c) ≡ closed c.1
+pub closed_default : (c : ℕ × Stmt) → closed (default c) ≡ closed c.1
 closed_default c = fold-roll-Stmt Bool Bool closed_layer (λ b. true) (Stmt-F.Default c.0 c.1)
 
-closed_block : (b : Block) → closed (block_statement b) ≡ true
+pub closed_block : (b : Block) → closed (block_statement b) ≡ true
 closed_block b = fold-roll-Stmt Bool Bool closed_layer (λ b. true) (Stmt-F.Block b)
 
-closed_empty : (l : ℕ) → closed (empty l) ≡ true
+pub closed_empty : (l : ℕ) → closed (empty l) ≡ true
 closed_empty l = fold-roll-Stmt Bool Bool closed_layer (λ b. true) (Stmt-F.Empty l)
 
-closed_expression : (e : Expr) → closed (expression e) ≡ true
+pub closed_expression : (e : Expr) → closed (expression e) ≡ true
 closed_expression e = fold-roll-Stmt Bool Bool closed_layer (λ b. true) (Stmt-F.Expression e)
 
-closed_do : (c : ℕ × (Stmt × Expr)) → closed (do_while c) ≡ true
+pub closed_do : (c : ℕ × (Stmt × Expr)) → closed (do_while c) ≡ true
 closed_do c = fold-roll-Stmt Bool Bool closed_layer (λ b. true) (Stmt-F.Do c.0 c.1.0 c.1.1)
 
-closed_break : (l : ℕ) → closed (break l) ≡ true
+pub closed_break : (l : ℕ) → closed (break l) ≡ true
 closed_break l = fold-roll-Stmt Bool Bool closed_layer (λ b. true) (Stmt-F.Break l)
 
-closed_continue : (l : ℕ) → closed (continue l) ≡ true
+pub closed_continue : (l : ℕ) → closed (continue l) ≡ true
 closed_continue l = fold-roll-Stmt Bool Bool closed_layer (λ b. true) (Stmt-F.Continue l)
 
-closed_return : (c : ℕ × Option Expr) → closed (return c) ≡ true
+pub closed_return : (c : ℕ × Option Expr) → closed (return c) ≡ true
 closed_return c = fold-roll-Stmt Bool Bool closed_layer (λ b. true) (Stmt-F.Return c.0 c.1)
 
 -- P of what is found
@@ -139,7 +139,7 @@ same_behind : (a b : Bool) (k : ℕ) → a ≡ b → member k (behind_of a) ≡ 
 same_behind a b k e h = subst (λ z. member k (behind_of z) ≡ true) e h
 
 -- any number of L
-reads_series : {A : Type 0} {L V : Lang A} {r q : List Token → Reply A} {next : List ℕ} {follow : A → List ℕ} → Reads L V r q next follow → (ks behind : List ℕ) (w : List Token) → subset next ks ≡ true → ((a : A) → subset ks (follow a) ≡ true) → ((a : A) → subset behind (follow a) ≡ true) → apart behind ks ≡ true → member 0 ks ≡ false → ((a : A) → member (look w) (follow a) ≡ true) → member (look w) next ≡ false
+pub reads_series : {A : Type 0} {L V : Lang A} {r q : List Token → Reply A} {next : List ℕ} {follow : A → List ℕ} → Reads L V r q next follow → (ks behind : List ℕ) (w : List Token) → subset next ks ≡ true → ((a : A) → subset ks (follow a) ≡ true) → ((a : A) → subset behind (follow a) ≡ true) → apart behind ks ≡ true → member 0 ks ≡ false → ((a : A) → member (look w) (follow a) ≡ true) → member (look w) next ≡ false
     → Reads (series L) (series V) (read_series ks r) (read_series ks q) (ks ++ behind) (λ _. behind)
 reads_series R ks behind w here goes ends stops no_end w_in w_out = reads_built (reads_absent [] (ks ++ behind)) R ks snoc behind w here (λ a. subset_left ks behind) (λ a. subset_right ks behind) goes ends stops no_end w_in w_out
 
