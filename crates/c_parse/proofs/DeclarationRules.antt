@@ -82,7 +82,7 @@ module _ (A : Lang Expr) where
   elements_from xs us (c, eq, (us1, us2, e2, l, inl (n, e3, s))) = (false, subst (λ z. GrownElements (z, false) us) (sym eq) (subst (GrownElements (c.0, false)) (sym e2) (more (c.0, true) None us1 us2 (listed_open c.0 us1 (built_grown (made single A) (lead (punct p.Comma) A) snoc c.0 us1 l)) refl refl ((n, None), refl, (us2, [], sym (append-nil us2), s, inr (refl, refl))))))
 
 -- behind a function's name and parameters a body may stand
-pub declarator_follow : Declarator → List ℕ
+abbrev pub declarator_follow : Declarator → List ℕ
 declarator_follow d = if is_function d then punct p.OpenBrace ∷ punct p.Comma ∷ punct p.Semicolon ∷ [] else punct p.Comma ∷ punct p.Semicolon ∷ []
 
 pub comma_or_end : (b : Bool) → subset (punct p.Comma ∷ punct p.Semicolon ∷ []) (if b then punct p.OpenBrace ∷ punct p.Comma ∷ punct p.Semicolon ∷ [] else punct p.Comma ∷ punct p.Semicolon ∷ []) ≡ true
@@ -90,7 +90,6 @@ comma_or_end true = refl
 comma_or_end false = refl
 
 opened_end : (d : Declarator) → subset (punct p.Comma ∷ punct p.Semicolon ∷ []) (declarator_follow d) ≡ true
-unfolding declarator_follow
 opened_end d = comma_or_end (is_function d)
 
 -- at heights n and m of the tops
@@ -182,7 +181,7 @@ module _ (n m : ℕ) (lt : suc n < m) (some : nat_eq n 0 ≡ false) where
   initialised (Some i) = after_initialiser
 
   not_function : (c : (Identifier × Shape) × Option Initialiser) (k : ℕ) → member k (declarator_follow (declarator c)) ≡ true → member k (initialised c.1) ≡ true
-  unfolding declarator_follow initialised
+  unfolding initialised
   not_function ((x, s), None) k h = go (is_function (declarator ((x, s), None))) h
     where
       go : (b : Bool) → member k (if b then punct p.OpenBrace ∷ punct p.Comma ∷ punct p.Semicolon ∷ [] else punct p.Comma ∷ punct p.Semicolon ∷ []) ≡ true → member k (punct p.Comma ∷ punct p.Semicolon ∷ punct p.OpenBrace ∷ []) ≡ true

@@ -15,3 +15,4 @@ pub mod Ranks
 pub mod DeclarationRules
 pub mod StatementRules
 pub mod ModuleRules
+pub mod ItemRules

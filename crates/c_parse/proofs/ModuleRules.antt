@@ -31,7 +31,7 @@ use Rattle.c_parse.proofs.DeclarationRules.{trailed, led_by, pair_of, made_of, s
 use Rattle.c_parse.proofs.StatementRules.{behind, EachReply, bind_each, any_each, found_each, each_found, some_block, some_series, some_sign_of, reads_block_over, reads_stmt_over, closed_if, closed_else, closed_switch, closed_while, closed_for, closed_case, closed_default, closed_block, closed_empty, closed_expression, closed_do, closed_break, closed_continue, closed_return}
 
 -- a statement with an else behind it is closed
-abbrev Good : Stmt → List Token → Type 0
+abbrev pub Good : Stmt → List Token → Type 0
 Good s r = member (look r) (word w.Else ∷ []) ≡ true → closed s ≡ true
 
 abbrev Free : {A : Type 0} → A → List Token → Type 0

@@ -8,13 +8,17 @@ use Rattle.c_parse.specs.declared.fault.ParseKind.{ParseKind}
 use Rattle.c_parse.specs.declared.fault.ParseKind.TheVariants as kinds
 use Rattle.c_parse.specs.Modules.{IsModule}
 
--- the tokens spell the module
+-- the tokens spell the module; some height, which is at least 1, bounds its trees
 abbrev pub Spells : Module → List Token → Type 0
-Spells m ws = (n : ℕ) × IsModule n m ws
+Spells m ws = (n : ℕ) × IsModule (suc n) m ws
 
--- they spell it, and no statement or expression in it is higher than 256
+-- how high a statement or an expression may be
+pub limit : ℕ
+limit = 256
+
+-- they spell it, and no statement or expression in it is higher than the limit
 abbrev pub IsAccepted : Module → List Token → Type 0
-IsAccepted m ws = IsModule 256 m ws
+IsAccepted m ws = IsModule limit m ws
 
 -- some module begins with these tokens
 abbrev pub Continues : List Token → Type 0
