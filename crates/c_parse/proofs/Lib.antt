@@ -16,3 +16,4 @@ pub mod DeclarationRules
 pub mod StatementRules
 pub mod ModuleRules
 pub mod ItemRules
+pub mod Whole

@@ -13,7 +13,7 @@ abbrev pub Spells : Module → List Token → Type 0
 Spells m ws = (n : ℕ) × IsModule (suc n) m ws
 
 -- how high a statement or an expression may be
-pub limit : ℕ
+unfoldable pub limit : ℕ
 limit = 256
 
 -- they spell it, and no statement or expression in it is higher than the limit
