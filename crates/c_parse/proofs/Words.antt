@@ -13,8 +13,8 @@ use Rattle.c_parse.specs.Classes.{class, kind_class, punct, word, look, member, 
 use Rattle.c_parse.specs.Languages.{Lang, picked, line_if, lined, sign, among, both, either, made, absent, optional, lead, trail, built}
 use Rattle.c_parse.specs.Trees.{Sized, kind_name, name_of, kind_constant, constant_of}
 use Rattle.c_parse.specs.Expressions.{identifier, constant}
-use Rattle.c_parse.specs.Reading.{Reply, read_picked, read_sign, read_among, read_open, read_both, read_made, read_either, read_absent, read_optional, read_lead, read_trail, read_open_lead, read_built}
-use Rattle.c_parse.proofs.Members.{subset, apart, if_true, member-subset, member-left, member-right, member-self, among_exact, sign_exact}
+use Rattle.c_parse.specs.Reading.{Reply, Found, picked_reply, read_picked, read_sign, read_among, read_open, read_both, read_made, read_either, read_absent, read_optional, read_lead, read_trail, read_open_lead, read_built}
+use Rattle.c_parse.proofs.Members.{row_exact, subset, apart, if_true, member-subset, member-left, member-right, member-self, among_exact, sign_exact}
 use Rattle.c_parse.proofs.Rows.{reads_built}
 use Rattle.c_parse.proofs.Readers.{Reads, reads_picked, reads_opened, reads_made, reads_both, reads_either, reads_absent, some_front}
 
@@ -92,3 +92,9 @@ module _ {A : Type 0} {L V : A → List Token → Type 0} {r q : List Token → 
 -- a list that isn't empty is there where an element is
 pub some_listed : {A B : Type 0} {L : A → List Token → Type 0} (first : A → B) (g : B → A → B) → Some_of L → Some_of (built g (made first L) (lead (punct p.Comma) L))
 some_listed first g x = (first x.0, x.1, ((first x.0, []), refl, (x.1, [], sym (append-nil x.1), (x.0, refl, x.2), refl)))
+
+-- the front token, where a table has its class
+pub among_front : {A : Type 0} (table : List (ℕ × A)) (ts : List Token) (t : Token) (rest : List Token) (a : A) → ts ≡ t ∷ rest → row_of (class t) table ≡ Some a → (member (look ts) (classes table) ≡ true) × (read_among table ts ≡ Found (a, t.line) rest)
+among_front table ts t rest a e h =
+    (ap (λ z. member (look z) (classes table)) e ∙ row_exact (class t) table ∙ ap is_some h,
+    ap (read_among table) e ∙ ap (λ z. picked_reply t rest (lined t.line z)) h)

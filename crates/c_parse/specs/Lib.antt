@@ -4,6 +4,8 @@ pub mod Trees
 pub mod Expressions
 pub mod Modules
 pub mod Promise
+pub mod Gives
+pub mod Ranks
 pub mod Reading
 pub mod ExpressionReaders
 pub mod ModuleReaders

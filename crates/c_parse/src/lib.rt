@@ -2,7 +2,10 @@
 #![tactic(auto)]
 
 mod fault;
+mod front;
+mod node;
 mod precedence;
+mod refusal;
 
 pub use fault::{ParseFault, ParseKind};
 pub use precedence::Precedence;
