@@ -12,6 +12,7 @@ pub mod Words
 pub mod Forms
 pub mod ExpressionRules
 pub mod Ranks
+pub mod Levels
 pub mod DeclarationRules
 pub mod StatementRules
 pub mod ModuleRules

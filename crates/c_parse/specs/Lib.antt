@@ -6,6 +6,8 @@ pub mod Modules
 pub mod Promise
 pub mod Gives
 pub mod Ranks
+pub mod Parts
+pub mod ModuleParts
 pub mod Reading
 pub mod ExpressionReaders
 pub mod ModuleReaders

@@ -1,6 +1,7 @@
 //! The parser of the C profile.
 #![tactic(auto)]
 
+mod expression;
 mod fault;
 mod front;
 mod node;
