@@ -16,7 +16,7 @@ use Rattle.c_parse.specs.Expressions.{Rank, Comma, Assignment, Conditional, Bina
 use Rattle.c_parse.proofs.Maps.{On, Each, Any, Opt, each_any, each_made, each_both, each_either, each_optional, each_lead, each_trail, each_built}
 use Rattle.c_parse.proofs.Heights.{Low, rest_height, suffix_height, on_rank}
 
-each_row : {X : Type 0} (n : ℕ) {L : Lang (X × ℕ)} → Each (Low n) L → Each (Low n) (row L)
+pub each_row : {X : Type 0} (n : ℕ) {L : Lang (X × ℕ)} → Each (Low n) L → Each (Low n) (row L)
 each_row n m = each_built (Low n) (Low n) add (λ a b h k. omega (arith, h, k)) (each_made (Low n) (Low n) one (λ a h. h) m) (each_lead (Low n) (punct p.Comma) m)
 
 each_inside : {A : Type 0} (P : A → Type 0) (j k : ℕ) {L : Lang A} → Each P L → Each P (lead j (trail L k))

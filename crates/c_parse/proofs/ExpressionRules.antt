@@ -171,7 +171,7 @@ module _ (n m : ℕ) (pos : nat_eq m 0 ≡ false) {E F : Lang Sized} {e f : List
   reads_value : Reads (lead (punct p.Equals) E) (lead (punct p.Equals) F) (read_open_lead n (punct p.Equals) e) (read_open_lead m (punct p.Equals) f) (punct p.Equals ∷ []) (λ _. after_conditional)
   reads_value = reads_made (reads_opened (line_if (punct p.Equals)) (punct p.Equals ∷ []) (sign_exact (punct p.Equals)) refl n m (λ z. R) R.some none any pos (mark p.Equals) refl) (λ c. c.1) (λ _. after_conditional) (λ c k h. h)
 
-  reads_enumerator : Reads (IsEnumerator E) (IsEnumerator F) (read_enumerator n e) (read_enumerator m f) (1 ∷ []) (λ _. punct p.Comma ∷ punct p.CloseBrace ∷ [])
+  pub reads_enumerator : Reads (IsEnumerator E) (IsEnumerator F) (read_enumerator n e) (read_enumerator m f) (1 ∷ []) (λ _. punct p.Comma ∷ punct p.CloseBrace ∷ [])
   reads_enumerator = reads_made (reads_both (reads_identifier (λ _. punct p.Equals ∷ punct p.Comma ∷ punct p.CloseBrace ∷ [])) (reads_optional reads_value (punct p.Equals ∷ []) (punct p.Comma ∷ punct p.CloseBrace ∷ []) refl refl (λ a. refl)) (λ a us l. (None, [], inr (refl, refl))) (λ a. refl))
       enumerator (λ _. punct p.Comma ∷ punct p.CloseBrace ∷ []) (λ c k h. h)
 
@@ -201,7 +201,7 @@ module _ (n m : ℕ) (pos : nat_eq m 0 ≡ false) {E F : Lang Sized} {e f : List
   some_rest : Some_of (EnumRestL E)
   some_rest = (Tagged some_name.0 None, some_name.1, inl ((some_name.0, None), refl, (some_name.1, [], sym (append-nil some_name.1), some_name.2, inr (refl, refl))))
 
-  reads_specifier : Reads (IsSpecifier E) (IsSpecifier F) (read_specifier n e) (read_specifier m f) (classes specifier_words ++ word w.Enum ∷ []) (λ _. after_specifier)
+  pub reads_specifier : Reads (IsSpecifier E) (IsSpecifier F) (read_specifier n e) (read_specifier m f) (classes specifier_words ++ word w.Enum ∷ []) (λ _. after_specifier)
   reads_specifier = reads_either (reads_made (reads_among specifier_words refl (reserved w.Int) refl (λ _. after_specifier)) specifier_word (λ _. after_specifier) (λ c k h. h))
       (reads_made (reads_both (reads_sign (reserved w.Enum) refl (λ _. 1 ∷ punct p.OpenBrace ∷ [])) reads_enum_rest (λ a us l. some_rest) (λ a. refl)) enum (λ _. after_specifier) (λ c k h. h)) (classes specifier_words) refl refl
 

@@ -13,6 +13,8 @@ pub mod Forms
 pub mod ExpressionRules
 pub mod Ranks
 pub mod Levels
+pub mod Steps
+pub mod Rounds
 pub mod DeclarationRules
 pub mod StatementRules
 pub mod ModuleRules

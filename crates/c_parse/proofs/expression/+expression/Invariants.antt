@@ -1,4 +1,4 @@
-use Rattle.std.proofs.Common.{ℕ, ◌≡◌, ◌+◌, ◌*◌, ◌-◌, length, [], ◌∷◌, max}
+use Rattle.std.proofs.Common.{ℕ, ◌≡◌, ◌+◌, ◌*◌, ◌-◌, length, [], ◌∷◌, max, true}
 use Rattle.c_tree.specs.declared.token.Punct.TheVariants as p
 use Rattle.c_parse.specs.Classes.{punct, classes}
 use Rattle.c_parse.specs.Trees as trees
@@ -71,7 +71,7 @@ abbrev pub decreases-binary-row : goal.decreases-binary-row
 decreases-binary-row l = length l.rest
 
 abbrev pub invariant-unary-row : goal.invariant-unary-row
-invariant-unary-row l = read_rest readers.is_postfix (readers.fits l.fn.depth) (classes ranks.steps) trees.postfix (read_among ranks.steps) (length l.rest) (l.left.expr, l.left.height) l.rest ≡ parts.unary l.fn.depth l.fn.casts l.fn.t
+invariant-unary-row l = (readers.is_postfix (l.left.expr, l.left.height) ≡ true) × (read_rest readers.is_postfix (readers.fits l.fn.depth) (classes ranks.steps) trees.postfix (read_among ranks.steps) (length l.rest) (l.left.expr, l.left.height) l.rest ≡ parts.unary l.fn.depth l.fn.casts l.fn.t)
 
 abbrev pub decreases-unary-row : goal.decreases-unary-row
 decreases-unary-row l = length l.rest
