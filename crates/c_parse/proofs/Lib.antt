@@ -15,6 +15,7 @@ pub mod Ranks
 pub mod Levels
 pub mod Steps
 pub mod Rounds
+pub mod Sizes
 pub mod DeclarationRules
 pub mod StatementRules
 pub mod ModuleRules
