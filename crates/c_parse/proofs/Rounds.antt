@@ -262,3 +262,7 @@ or_is_condition n ts a r e = go ((reads_whole (suc n) (Binary LogicalOr) tt).out
     go (found b us r2 e2 l st) h = let same : b ≡ a = cc in subst (λ z. is_condition z ≡ true) same (condition_logical_or (IsExpr n) b us l)
     go (wrong us r2 e2 al st) h = absurd cc
     go (deep us u r2 e2 al d ws v st) h = absurd cc
+
+pub specifiers_keeps : (n : ℕ) → Keeps (parts.specifiers n)
+unfolding parts.specifiers parts.specifier_list parts.specifier parts.enumerators parts.enumerator_list parts.enumerator parts.whole
+specifiers_keeps n = reads_keeps (reads_spec n)

@@ -5,7 +5,7 @@ use Rattle.c_parse.specs.declared.refusal.Refusal.{Refusal}
 use Rattle.c_parse.specs.declared.refusal.Refusal.TheVariants as refusals
 use Rattle.c_parse.specs.Classes.{class, look, member}
 use Rattle.c_parse.specs.Languages.{line_if, sign}
-use Rattle.c_parse.specs.Reading.{Reply, Found, Wrong, Deep, bind, picked_reply, read_picked, read_sign, read_among, read_both, read_lead, read_rest, always}
+use Rattle.c_parse.specs.Reading.{Reply, Found, Wrong, Deep, bind, picked_reply, read_picked, read_sign, read_among, read_both, read_lead, read_optional, read_rest, always}
 use Rattle.c_parse.specs.Gives.{Fails}
 use Rattle.c_parse.proofs.Members.{if_true, if_false}
 use Rattle.c_parse.proofs.Readers.{Outcome, found, wrong, deep, Reads}
@@ -151,3 +151,20 @@ pub sign_fails : {A : Type 0} (k : ℕ) (p : List Token → Reply A) (ts : List 
 sign_fails k p ts refusals.Memory h = tt
 sign_fails {A} k p ts (refusals.Wrong r) h = ap (λ z. bind {A = ℕ × A} (bind z (λ l s. bind (p s) (λ b s'. Found (l, b) s'))) (λ c s. Found c.1 s)) h
 sign_fails {A} k p ts (refusals.Deep r) h = ap (λ z. bind {A = ℕ × A} (bind z (λ l s. bind (p s) (λ b s'. Found (l, b) s'))) (λ c s. Found c.1 s)) h
+
+-- what may be absent
+pub optional_some : {A : Type 0} (ks : List ℕ) (p : List Token → Reply A) (ts : List Token) (a : A) (r : List Token) → member (look ts) ks ≡ true → p ts ≡ Found a r → read_optional ks p ts ≡ Found (Some a) r
+optional_some ks p ts a r h e = if_true _ _ h ∙ ap (λ z. bind z (λ a r. Found (Some a) r)) e
+
+pub optional_none : {A : Type 0} (ks : List ℕ) (p : List Token → Reply A) (ts : List Token) → member (look ts) ks ≡ false → read_optional ks p ts ≡ Found None ts
+optional_none ks p ts h = if_false _ _ h
+
+pub optional_fails : {A : Type 0} (ks : List ℕ) (p : List Token → Reply A) (ts : List Token) (e : Refusal) → member (look ts) ks ≡ true → Fails e (p ts) → Fails e (read_optional ks p ts)
+optional_fails ks p ts refusals.Memory h x = tt
+optional_fails ks p ts (refusals.Wrong r) h x = if_true _ _ h ∙ ap (λ z. bind z (λ a r. Found (Some a) r)) x
+optional_fails ks p ts (refusals.Deep r) h x = if_true _ _ h ∙ ap (λ z. bind z (λ a r. Found (Some a) r)) x
+
+pub made_fails : {A B : Type 0} (f : A → B) (x : Reply A) (e : Refusal) → Fails e x → Fails e (bind x (λ a r. Found (f a) r))
+made_fails f x refusals.Memory h = tt
+made_fails f x (refusals.Wrong r) h = ap (λ z. bind z (λ a r. Found (f a) r)) h
+made_fails f x (refusals.Deep r) h = ap (λ z. bind z (λ a r. Found (f a) r)) h

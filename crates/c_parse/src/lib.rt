@@ -1,6 +1,7 @@
 //! The parser of the C profile.
 #![tactic(auto)]
 
+mod declaration;
 mod expression;
 mod fault;
 mod front;
