@@ -1,5 +1,5 @@
 -- Heights are at least 1 and within the index; what is low enough is spelled with a lower index.
-use Rattle.std.proofs.Common.{ℕ, zero, suc, ◌≡◌, ◌+◌, ◌<◌, ◌≤◌, max, refl, sym, subst, Bool, true, false, nat_le, List, [], ◌∷◌, ◌++◌, append-nil, inl, inr, Option, Some, None, arith}
+use Rattle.std.proofs.Common.{ℕ, zero, suc, ◌≡◌, ◌+◌, ◌≤◌, max, subst, List, Option, Some, None, arith}
 use Rattle.c_tree.specs.declared.token.Token.{Token}
 use Rattle.c_tree.specs.declared.token.TokenKind.TheVariants as kinds
 use Rattle.c_tree.specs.declared.token.TokenKind.{TokenKind}
@@ -10,9 +10,9 @@ use Rattle.c_tree.specs.declared.expression.Expr.{Expr}
 use Rattle.c_parse.specs.declared.precedence.Precedence.{Precedence}
 use Rattle.c_parse.specs.declared.precedence.Precedence.TheVariants.{LogicalOr, LogicalAnd, Or, Xor, And, Equality, Relation, Shift, Sum, Product}
 use Rattle.c_parse.specs.Classes.{punct, word}
-use Rattle.c_parse.specs.Languages.{Lang, picked, sign, among, both, either, made, such, optional, lead, trail, built}
-use Rattle.c_parse.specs.Trees.{Sized, add, one, all_or_none, name_of, constant_of, kind_constant, Suffix, Subscript, Arguments, named, paren, postfix, prefix, unary, cast, binary, conditional, assign, comma, enumerator, value_height, EnumRest, Tagged, Untagged, enum, specifier_word, first_specifier, next_specifier, specifiers}
-use Rattle.c_parse.specs.Expressions.{Rank, Comma, Assignment, Conditional, Binary, Cast, Unary, Postfix, operators, assignment_operators, steps, unary_operators, specifier_words, identifier, constant, parenthesised, bracketed, braced, row, IsEnumerator, IsEnum, IsSpecifier, IsSpecifiers, IsSuffix, IsPrimary, IsPostfix, IsUnary, IsCast, joined, IsProduct, IsSum, IsShift, IsRelation, IsEquality, IsAnd, IsXor, IsOr, IsLogicalAnd, IsLogicalOr, IsBinary, IsConditional, IsAssignment, IsComma, IsRank, IsExpr}
+use Rattle.c_parse.specs.Languages.{Lang, sign, among, either, lead, trail}
+use Rattle.c_parse.specs.Trees.{Sized, add, one, all_or_none, kind_constant, Suffix, Subscript, Arguments, named, paren, postfix, prefix, unary, cast, binary, conditional, assign, comma, enumerator, EnumRest, Tagged, Untagged, enum, specifier_word, first_specifier, next_specifier, specifiers}
+use Rattle.c_parse.specs.Expressions.{Rank, Comma, Assignment, Conditional, Binary, Cast, Unary, Postfix, operators, assignment_operators, steps, unary_operators, specifier_words, identifier, braced, row, IsEnumerator, IsSpecifier, IsSpecifiers, IsPrimary, IsPostfix, IsUnary, IsCast, joined, IsProduct, IsSum, IsShift, IsRelation, IsEquality, IsAnd, IsXor, IsOr, IsLogicalAnd, IsLogicalOr, IsConditional, IsAssignment, IsComma, IsRank, IsExpr}
 use Rattle.c_parse.proofs.Maps.{On, Each, Any, Opt, each_any, each_made, each_both, each_either, each_optional, each_lead, each_trail, each_built}
 use Rattle.c_parse.proofs.Heights.{Low, rest_height, suffix_height, on_rank}
 

@@ -1,11 +1,10 @@
 -- A rule that is recursive at its left end, height by height, and what grows step by step.
-use Rattle.std.proofs.Common.{ℕ, zero, suc, ◌≡◌, ◌+◌, ◌<◌, ◌≤◌, refl, sym, subst, ◌∙◌, ap, Bool, true, false, nat_le, nat_eq, if◌then◌else◌, List, ◌++◌, inl, inr, arith}
+use Rattle.std.proofs.Common.{ℕ, zero, suc, ◌≡◌, ◌<◌, ◌≤◌, refl, sym, subst, ◌∙◌, Bool, true, false, nat_le, nat_eq, if◌then◌else◌, List, ◌++◌, inl, inr, arith}
 use Rattle.std.proofs.lemmas.Bool.{le-leb, leb-true, ne_eqb}
 use Rattle.c_tree.specs.declared.token.Token.{Token}
 use Rattle.c_parse.specs.Languages.{Lang, both, either, made, such}
 use Rattle.c_parse.specs.ExpressionReaders.{fits}
 use Rattle.c_parse.proofs.Members.{if_false}
-use Rattle.c_parse.proofs.Maps.{On, Each}
 use Rattle.c_parse.proofs.Rows.{Grown, start, more, grown_mono}
 
 pub fits_le : {X : Type 0} (n : ℕ) (c : X × ℕ) → fits n c ≡ true → c.1 ≤ n

@@ -1,5 +1,5 @@
 -- The rules of declarations are read.
-use Rattle.std.proofs.Common.{ℕ, zero, suc, ◌≡◌, ◌+◌, ◌<◌, ◌≤◌, refl, sym, ◌∙◌, ap, subst, Bool, true, false, nat_eq, if◌then◌else◌, List, [], ◌∷◌, ◌++◌, append_assoc, append-nil, inl, inr, Option, Some, None, arith}
+use Rattle.std.proofs.Common.{ℕ, suc, ◌≡◌, ◌<◌, refl, sym, ◌∙◌, ap, subst, Bool, true, false, nat_eq, if◌then◌else◌, List, [], ◌∷◌, ◌++◌, append-nil, inl, inr, Option, Some, None}
 use Rattle.c_tree.specs.declared.token.Token.{Token}
 use Rattle.c_tree.specs.declared.token.TokenKind.TheVariants as kinds
 use Rattle.c_tree.specs.declared.token.Punct.TheVariants as p
@@ -11,20 +11,20 @@ use Rattle.c_tree.specs.declared.declaration.Shape.{Shape}
 use Rattle.c_tree.specs.declared.declaration.Initialiser.{Initialiser}
 use Rattle.c_tree.specs.declared.declaration.Shape.TheVariants as shapes
 use Rattle.c_tree.specs.declared.declaration.Initialiser.TheVariants as initialisers
-use Rattle.c_parse.specs.Classes.{class, punct, word, look, member, classes}
-use Rattle.c_parse.specs.Languages.{Lang, sign, both, either, made, absent, optional, lead, trail, built}
-use Rattle.c_parse.specs.Trees.{Sized, snoc, single, or_none, or_plain, declarator, elements, parameter, declaration}
-use Rattle.c_parse.specs.Expressions.{Rank, Comma, Assignment, Conditional, specifier_words, identifier, IsSpecifiers, IsExpr}
+use Rattle.c_parse.specs.Classes.{class, punct, word, member, classes}
+use Rattle.c_parse.specs.Languages.{Lang, sign, both, made, optional, lead, trail}
+use Rattle.c_parse.specs.Trees.{snoc, single, or_none, or_plain, declarator, elements, parameter, declaration}
+use Rattle.c_parse.specs.Expressions.{Rank, Assignment, Conditional, specifier_words, identifier, IsExpr}
 use Rattle.c_parse.specs.Modules.{listed, tree, IsTyped, IsParameter, IsParameters, IsShape, IsElements, IsInitialiser, IsDeclarator, IsDeclaration}
-use Rattle.c_parse.specs.Reading.{Reply, Found, read_optional, read_made, read_lead, read_trail, read_both, read_row, read_built, always}
+use Rattle.c_parse.specs.Reading.{read_optional, read_made, read_lead, read_row, always}
 use Rattle.c_parse.specs.ExpressionReaders.{expr_first, specifier_first, read_expr}
-use Rattle.c_parse.specs.ModuleReaders.{read_tree, read_listed, first_element, next_element, is_open, read_typed, read_parameter, read_parameters, read_length, read_shape, read_element, read_elements, read_initialiser, read_declarator, read_declaration, is_function}
-use Rattle.c_parse.proofs.Members.{subset, apart, member-subset}
-use Rattle.c_parse.proofs.Readers.{Reads, reads_as, reads_made, reads_both, reads_either, reads_absent, reads_absent_by}
+use Rattle.c_parse.specs.ModuleReaders.{read_tree, first_element, next_element, is_open, read_typed, read_parameter, read_parameters, read_shape, read_element, read_elements, read_initialiser, read_declarator, read_declaration, is_function}
+use Rattle.c_parse.proofs.Members.{subset, member-subset}
+use Rattle.c_parse.proofs.Readers.{Reads, reads_as, reads_made, reads_both, reads_either, reads_absent_by}
 use Rattle.c_parse.proofs.Rows.{Grown, start, more, reads_row, grown_built, built_grown}
-use Rattle.c_parse.proofs.Words.{subset_self, subset_left, subset_right, token, mark, reserved, Some_of, some_sign, reads_sign, reads_identifier, reads_lead, reads_trail, reads_optional, reads_listed, some_listed}
-use Rattle.c_parse.proofs.ExpressionRules.{after_comma, after_assignment, after_conditional, after_specifiers, after, any_expr, none_expr, above_zero, not_zero, reads_specifiers, some_specifiers}
-use Rattle.c_parse.proofs.Ranks.{reads_expr, narrow}
+use Rattle.c_parse.proofs.Words.{token, mark, Some_of, some_sign, reads_sign, reads_identifier, reads_lead, reads_trail, reads_optional, reads_listed, some_listed}
+use Rattle.c_parse.proofs.ExpressionRules.{after_assignment, after_conditional, after_specifiers, after, any_expr, none_expr, above_zero, not_zero, reads_specifiers, some_specifiers}
+use Rattle.c_parse.proofs.Ranks.{reads_expr}
 
 pub some_identifier : Some_of identifier
 some_identifier = (record { name = []; line = 0 }, token (kinds.Name []) ∷ [], (token (kinds.Name []), refl, refl))

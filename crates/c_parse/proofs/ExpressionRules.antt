@@ -1,6 +1,5 @@
 -- The rules of expressions are read.
-use Rattle.std.proofs.Common.{ℕ, zero, suc, ◌≡◌, ◌+◌, ◌<◌, ◌≤◌, refl, sym, ◌∙◌, ap, subst, Bool, true, false, nat_eq, if◌then◌else◌, List, [], ◌∷◌, ◌++◌, append-nil, inl, inr, Option, Some, None, is_some, eqb-true, arith, length}
-use Rattle.std.proofs.Math.Dec.{eqb-suc-zero}
+use Rattle.std.proofs.Common.{ℕ, zero, suc, ◌≡◌, ◌<◌, ◌≤◌, refl, sym, ◌∙◌, ap, subst, Bool, true, false, nat_eq, if◌then◌else◌, List, [], ◌∷◌, ◌++◌, append-nil, inl, inr, None, arith, length}
 use Rattle.std.proofs.lemmas.Bool.{ne_eqb}
 use Rattle.hlo_num.specs.declared.word.Ty.TheVariants.{Int}
 use Rattle.c_tree.specs.declared.token.Token.{Token}
@@ -9,30 +8,26 @@ use Rattle.c_tree.specs.declared.token.Punct.TheVariants as p
 use Rattle.c_tree.specs.declared.token.Reserved.TheVariants as w
 use Rattle.c_tree.specs.declared.expression.Expr.{Expr}
 use Rattle.c_tree.specs.declared.expression.Expr.TheOpen.{Expr-F}
-use Rattle.c_tree.specs.declared.expression.Enumerator.{Enumerator}
-use Rattle.c_tree.specs.declared.expression.Specifier.{Specifier}
 use Rattle.c_tree.specs.declared.expression.Specifiers.{Specifiers}
 use Rattle.c_tree.specs.declared.expression.SpecifierWord.TheVariants as s
 use Rattle.c_tree.specs.declared.expression.Step.{Step}
-use Rattle.c_tree.specs.declared.expression.BinaryOp.{BinaryOp}
-use Rattle.c_parse.specs.declared.precedence.Precedence.{Precedence}
 use Rattle.c_parse.specs.declared.precedence.Precedence.TheVariants.{LogicalOr, LogicalAnd, Or, Xor, And, Equality, Relation, Shift, Sum, Product}
 use Rattle.c_parse.specs.Classes.{class, punct, word, look, member, row_of, classes}
-use Rattle.c_parse.specs.Languages.{Lang, picked, line_if, lined, sign, among, both, either, made, such, optional, lead, trail, built}
-use Rattle.c_parse.specs.Trees.{Sized, node, add, one, all_or_none, name_of, constant_of, Suffix, Subscript, Arguments, named, paren, postfix, prefix, unary, cast, binary, conditional, assign, comma, enumerator, EnumRest, Tagged, Untagged, enum, specifier_word, first_specifier, next_specifier, specifiers}
-use Rattle.c_parse.specs.Expressions.{Rank, Comma, Assignment, Conditional, Binary, Cast, Unary, Postfix, operators, assignment_operators, steps, unary_operators, specifier_words, identifier, constant, braced, row, IsEnumerator, IsEnum, IsSpecifier, IsSpecifiers, IsSuffix, IsPrimary, IsPostfix, IsUnary, IsCast, joined, IsLogicalOr, IsRank, IsExpr}
-use Rattle.c_parse.specs.Reading.{Reply, Found, Wrong, Deep, bind, read_rest, read_none, read_row, read_both, read_among, read_lead, read_open, read_open_lead, read_made, read_trail, read_optional, always}
-use Rattle.c_parse.specs.ExpressionReaders.{fits, is_postfix, is_unary, is_condition, Opened, Typed, Inner, opened, expr_first, specifier_first, read_identifier, read_listing, read_enumerator, read_enumerators, read_enum_rest, read_specifier, read_specifiers, read_suffix, read_named, read_inner, read_paren, read_opened, read_cast_or_paren, read_prefixed, read_operand, read_unary, read_level, read_product, read_sum, read_shift, read_relation, read_equality, read_and, read_xor, read_or, read_logical_and, read_logical_or, read_conditional, read_assignment, read_comma, read_rank, read_expr}
-use Rattle.c_parse.proofs.Members.{subset, apart, if_true, if_false, member-subset, member-apart, among_exact, sign_exact, both_true}
-use Rattle.c_parse.proofs.Readers.{some_front, Outcome, found, wrong, deep, Agree, Reads, reads_as, refuses, reads_picked, reads_opened, reads_made, reads_both, reads_either, reads_absent}
+use Rattle.c_parse.specs.Languages.{Lang, line_if, lined, sign, among, both, either, made, such, optional, lead, trail}
+use Rattle.c_parse.specs.Trees.{Sized, node, add, one, all_or_none, name_of, constant_of, Subscript, Arguments, named, paren, postfix, prefix, unary, binary, conditional, assign, comma, enumerator, EnumRest, Tagged, Untagged, enum, specifier_word, first_specifier, next_specifier, specifiers}
+use Rattle.c_parse.specs.Expressions.{Rank, Comma, Assignment, Conditional, Binary, Cast, Unary, Postfix, operators, assignment_operators, steps, unary_operators, specifier_words, identifier, braced, row, IsEnumerator, IsSpecifier, IsSpecifiers, IsSuffix, IsPostfix, IsUnary, IsLogicalOr, IsRank, IsExpr}
+use Rattle.c_parse.specs.Reading.{Reply, Found, Wrong, Deep, bind, read_rest, read_row, read_both, read_among, read_lead, read_open, read_open_lead, read_made, read_trail, read_optional, always}
+use Rattle.c_parse.specs.ExpressionReaders.{fits, is_postfix, is_unary, is_condition, Opened, Typed, Inner, opened, expr_first, specifier_first, read_listing, read_enumerator, read_enumerators, read_enum_rest, read_specifier, read_specifiers, read_suffix, read_named, read_inner, read_paren, read_opened, read_cast_or_paren, read_prefixed, read_operand, read_unary, read_product, read_sum, read_shift, read_relation, read_equality, read_and, read_xor, read_or, read_logical_and, read_logical_or, read_conditional, read_assignment, read_comma, read_rank, read_expr}
+use Rattle.c_parse.proofs.Members.{subset, if_true, if_false, member-subset, among_exact, sign_exact}
+use Rattle.c_parse.proofs.Readers.{some_front, Outcome, wrong, deep, Agree, Reads, reads_as, refuses, reads_opened, reads_made, reads_both, reads_either}
 use Rattle.c_parse.proofs.Rows.{Grown, reads_row, reads_built}
 use Rattle.c_parse.proofs.Words.{subset_self, subset_left, subset_right, token, mark, reserved, Some_of, some_sign, reads_sign, reads_among, from_table, from_sign, reads_identifier, reads_constant, reads_lead, reads_trail, reads_optional, reads_listed, some_listed}
 use Rattle.c_parse.proofs.Numbers.{constant_exact, name_exact}
 use Rattle.c_parse.proofs.Operands.{ParenL, OpenedL, CastOrParenL, PrefixedL, OperandL}
 use Rattle.c_parse.proofs.Heights.{on_operand}
 use Rattle.c_parse.proofs.Bounds.{bounded, lowers, higher}
-use Rattle.c_parse.proofs.Chains.{fits_le, fits_pos, le_fits, fits_mono, grown_chain, chain_grown}
-use Rattle.c_parse.proofs.Forms.{postfix_node, unary_rank, postfix_up, postfix_down, rank_out, rank_into, only_condition, only_assignment, condition_logical_or, unary_unary, unary_logical_or}
+use Rattle.c_parse.proofs.Chains.{le_fits, fits_mono, grown_chain, chain_grown}
+use Rattle.c_parse.proofs.Forms.{postfix_node, unary_rank, postfix_up, postfix_down, rank_out, rank_into, unary_logical_or}
 
 -- what may stand behind an expression of each rank
 abbrev pub after_comma : List ℕ
@@ -355,6 +350,7 @@ begun_unary k t h = go (member (class t) (1 ∷ [])) refl (member (class t) (2 �
       where
         none_of : (j : ℕ) → member j (1 ∷ []) ≡ false → member j (2 ∷ []) ≡ false → member j (punct p.OpenParen ∷ []) ≡ false → member j (classes steps) ≡ false → member j (classes unary_operators) ≡ false → member j expr_first ≡ true → ⊥
         none_of j a b c d e f = let x : true ≡ false = sym f ∙ outside_append j (1 ∷ []) (2 ∷ punct p.OpenParen ∷ classes steps ++ classes unary_operators) a (outside_append j (2 ∷ []) (punct p.OpenParen ∷ classes steps ++ classes unary_operators) b (outside_append j (punct p.OpenParen ∷ []) (classes steps ++ classes unary_operators) c (outside_append j (classes steps) (classes unary_operators) d e))) in cc
+
 pub begun_expr : (m : ℕ) → 1 < m → (r : Rank) → IsRead r → (t : Token) → member (class t) expr_first ≡ true → (c : Sized) × (ws : List Token) × IsExpr m r c (t ∷ ws)
 begun_expr zero lt r i t h = absurd (omega (arith, lt))
 begun_expr (suc zero) lt r i t h = absurd (omega (arith, lt))
@@ -453,7 +449,6 @@ module _ (n m : ℕ) (lt : suc n < m) (R : (r : Rank) → IsRead r → Reads (Is
       (read_lead (punct p.OpenParen) (read_trail (read_made all_or_none (read_optional expr_first (read_listing (read_expr n Assignment)))) (punct p.CloseParen))) (read_lead (punct p.OpenParen) (read_trail (read_made all_or_none (read_optional expr_first (read_listing (read_expr m Assignment)))) (punct p.CloseParen)))
       (punct p.OpenParen ∷ []) (λ _. after_operand)
   reads_arguments = reads_lead (reads_trail (reads_made (reads_optional (reads_list n m lt (R Assignment tt)) expr_first (punct p.CloseParen ∷ []) refl refl (λ a. refl)) all_or_none (λ _. punct p.CloseParen ∷ []) (λ c k h. h)) (mark p.CloseParen) refl after_operand (λ a. refl)) (mark p.OpenParen) refl (trailed (mark p.CloseParen) some_none)
-
 
   reads_suffix : Reads (IsSuffix (IsExpr n)) (IsSuffix (IsExpr m)) (read_suffix n (read_expr n)) (read_suffix m (read_expr m)) (punct p.OpenBracket ∷ punct p.OpenParen ∷ []) (λ _. after_operand)
   reads_suffix = reads_either (reads_made reads_subscript Subscript (λ _. after_operand) (λ c k h. h)) (reads_made reads_arguments Arguments (λ _. after_operand) (λ c k h. h)) (punct p.OpenBracket ∷ []) refl refl

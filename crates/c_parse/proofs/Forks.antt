@@ -1,11 +1,11 @@
 -- A reader, and then one of two others.
-use Rattle.std.proofs.Common.{ℕ, ◌≡◌, refl, sym, ◌∙◌, ap, subst, Bool, true, false, if◌then◌else◌, List, [], ◌∷◌, ◌++◌, append_assoc, append-nil, inl, inr}
+use Rattle.std.proofs.Common.{ℕ, ◌≡◌, refl, sym, ◌∙◌, ap, subst, Bool, true, false, if◌then◌else◌, List, [], ◌++◌, append_assoc, append-nil, inl, inr}
 use Rattle.c_tree.specs.declared.token.Token.{Token}
-use Rattle.c_parse.specs.Classes.{class, look, member}
+use Rattle.c_parse.specs.Classes.{look, member}
 use Rattle.c_parse.specs.Languages.{both, either, made, such}
-use Rattle.c_parse.specs.Reading.{Reply, Found, Wrong, Deep, bind, read_fork}
+use Rattle.c_parse.specs.Reading.{Reply, Found, bind, read_fork}
 use Rattle.c_parse.proofs.Members.{subset, apart, if_true, if_false, member-subset, member-apart}
-use Rattle.c_parse.proofs.Readers.{Outcome, found, Agree, Reads, bind_agrees, found_agrees, bind_found, bind_outcome, chosen, done}
+use Rattle.c_parse.proofs.Readers.{Outcome, Agree, Reads, bind_agrees, found_agrees, bind_found, bind_outcome, chosen, done}
 
 module _ {A B C D : Type 0} {L V : A → List Token → Type 0} {M W : B → List Token → Type 0} {N X : C → List Token → Type 0} {p q : List Token → Reply A} {p1 q1 : List Token → Reply B} {p2 q2 : List Token → Reply C}
     {next next1 next2 : List ℕ} {follow : A → List ℕ} {follow1 : B → List ℕ} {follow2 : C → List ℕ}

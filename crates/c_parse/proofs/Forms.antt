@@ -1,10 +1,10 @@
 -- Which rules an expression of a form can come from, and the rules of a rank as a first form that grows.
-use Rattle.std.proofs.Common.{ℕ, zero, suc, ◌≡◌, ◌+◌, ◌<◌, ◌≤◌, refl, sym, ◌∙◌, ap, subst, Bool, true, false, List, [], ◌∷◌, ◌++◌, append-nil, inl, inr, Option, Some, None, arith}
+use Rattle.std.proofs.Common.{ℕ, zero, suc, ◌≡◌, refl, sym, ◌∙◌, ap, subst, Bool, true, false, List, inl, inr, Option, Some, None, arith}
 use Rattle.c_tree.specs.declared.token.Token.{Token}
 use Rattle.c_tree.specs.declared.token.TokenKind.{TokenKind}
 use Rattle.c_tree.specs.declared.token.TokenKind.TheVariants as kinds
 use Rattle.c_tree.specs.declared.token.Punct.TheVariants as p
-use Rattle.c_tree.specs.declared.expression.Expr.{Expr, roll-Expr, out-Expr, out-roll-Expr}
+use Rattle.c_tree.specs.declared.expression.Expr.{Expr, out-roll-Expr}
 use Rattle.c_tree.specs.declared.expression.Expr.TheOpen.{Expr-F}
 use Rattle.c_tree.specs.declared.expression.Specifiers.{Specifiers}
 use Rattle.c_tree.specs.declared.expression.Specifier.{Specifier}
@@ -12,17 +12,13 @@ use Rattle.c_tree.specs.declared.expression.Enumerator.{Enumerator}
 use Rattle.c_parse.specs.declared.precedence.Precedence.{Precedence}
 use Rattle.c_parse.specs.declared.precedence.Precedence.TheVariants.{LogicalOr, LogicalAnd, Or, Xor, And, Equality, Relation, Shift, Sum, Product}
 use Rattle.c_parse.specs.Classes.{punct}
-use Rattle.c_parse.specs.Languages.{Lang, picked, sign, among, both, either, made, such, optional, lead, trail}
-use Rattle.c_parse.specs.Trees.{Sized, node, kind_constant, constant_of, Suffix, Subscript, Arguments, suffixed, named, paren, postfix, prefix, unary, cast, binary, conditional, assign, comma}
-use Rattle.c_parse.specs.Expressions.{Rank, Comma, Assignment, Conditional, Binary, Cast, Unary, Postfix, operators, assignment_operators, steps, unary_operators, identifier, constant, IsSpecifiers, IsSuffix, IsPrimary, IsPostfix, IsUnary, IsCast, joined, IsProduct, IsSum, IsShift, IsRelation, IsEquality, IsAnd, IsXor, IsOr, IsLogicalAnd, IsLogicalOr, IsConditional, IsAssignment, IsComma, IsRank, IsExpr}
-use Rattle.c_parse.specs.Reading.{always}
-use Rattle.c_parse.specs.ExpressionReaders.{fits, postfix_layer, unary_layer, closed_layer, is_postfix, is_unary, is_condition, Opened, Typed, Inner, opened}
+use Rattle.c_parse.specs.Languages.{Lang, sign, among, both, either, made, such, trail}
+use Rattle.c_parse.specs.Trees.{Sized, node, kind_constant, Suffix, Subscript, Arguments, named, paren, postfix, prefix, unary, cast, binary}
+use Rattle.c_parse.specs.Expressions.{Rank, Conditional, Binary, Cast, Unary, Postfix, steps, IsSpecifiers, IsPrimary, IsPostfix, IsUnary, IsCast, joined, IsProduct, IsSum, IsShift, IsRelation, IsEquality, IsAnd, IsXor, IsOr, IsLogicalAnd, IsLogicalOr, IsConditional, IsAssignment, IsRank, IsExpr}
+use Rattle.c_parse.specs.ExpressionReaders.{postfix_layer, unary_layer, closed_layer, is_postfix, is_unary, is_condition, Typed, Inner, opened}
 use Rattle.c_parse.proofs.Maps.{Each, Any, each_any, each_made, each_either}
 use Rattle.c_parse.proofs.Operands.{ParenL, CastOrParenL, PrefixedL, OperandL}
-use Rattle.c_parse.proofs.Bounds.{bounded, lowers, higher}
-use Rattle.c_parse.proofs.Heights.{on_rank, on_specifiers}
-use Rattle.c_parse.proofs.Rows.{Grown}
-use Rattle.c_parse.proofs.Chains.{grown_chain, chain_grown}
+use Rattle.c_parse.proofs.Bounds.{higher}
 
 Layer : Type 0
 Layer = Expr-F Expr Specifier Enumerator Specifiers

@@ -1,18 +1,17 @@
 -- What the index of the grammar of expressions has to do with heights.
-use Rattle.std.proofs.Common.{ℕ, zero, suc, ◌≡◌, ◌+◌, ◌<◌, ◌≤◌, max, refl, sym, subst, Bool, true, false, List, [], ◌∷◌, inl, inr, Option, Some, None, arith}
-use Rattle.c_tree.specs.declared.token.Token.{Token}
+use Rattle.std.proofs.Common.{ℕ, suc, ◌+◌, ◌≤◌, max, Bool, true, false, List, Option, Some, None, arith}
 use Rattle.c_tree.specs.declared.token.Punct.TheVariants as p
 use Rattle.c_tree.specs.declared.token.Reserved.TheVariants as w
 use Rattle.c_tree.specs.declared.expression.Enumerator.{Enumerator}
 use Rattle.c_parse.specs.declared.precedence.Precedence.{Precedence}
 use Rattle.c_parse.specs.declared.precedence.Precedence.TheVariants.{LogicalOr, LogicalAnd, Or, Xor, And, Equality, Relation, Shift, Sum, Product}
 use Rattle.c_parse.specs.Classes.{punct, word}
-use Rattle.c_parse.specs.Languages.{Lang, picked, sign, among, both, either, made, optional, lead, trail, built}
-use Rattle.c_parse.specs.Trees.{Sized, add, one, all_or_none, name_of, constant_of, kind_constant, Suffix, Subscript, Arguments, named, paren, postfix, prefix, unary, cast, binary, conditional, assign, comma, enumerator, value_height, EnumRest, Tagged, Untagged, enum, specifier_word, first_specifier, next_specifier, specifiers}
-use Rattle.c_parse.specs.Expressions.{Rank, Comma, Assignment, Conditional, Binary, Cast, Unary, Postfix, operators, assignment_operators, steps, unary_operators, specifier_words, identifier, constant, parenthesised, bracketed, braced, row, IsEnumerator, IsEnum, IsSpecifier, IsSpecifiers, IsSuffix, IsPrimary, IsPostfix, IsUnary, IsCast, joined, IsProduct, IsSum, IsShift, IsRelation, IsEquality, IsAnd, IsXor, IsOr, IsLogicalAnd, IsLogicalOr, IsBinary, IsConditional, IsAssignment, IsComma, IsRank, IsExpr}
+use Rattle.c_parse.specs.Languages.{Lang, sign, among, both, either, made, optional, lead, trail}
+use Rattle.c_parse.specs.Trees.{Sized, add, one, all_or_none, Suffix, Subscript, Arguments, named, paren, postfix, prefix, unary, cast, binary, conditional, assign, comma, enumerator, EnumRest, Tagged, Untagged, enum, specifier_word, first_specifier, next_specifier, specifiers}
+use Rattle.c_parse.specs.Expressions.{Rank, Comma, Assignment, Conditional, Binary, Cast, Unary, Postfix, operators, assignment_operators, steps, unary_operators, specifier_words, identifier, constant, braced, row, IsEnumerator, IsSpecifier, IsSpecifiers, IsSuffix, IsPrimary, IsPostfix, IsUnary, IsCast, joined, IsProduct, IsSum, IsShift, IsRelation, IsEquality, IsAnd, IsXor, IsOr, IsLogicalAnd, IsLogicalOr, IsConditional, IsAssignment, IsComma, IsRank}
 use Rattle.c_parse.specs.ExpressionReaders.{Opened, Typed, Inner, opened}
 use Rattle.c_parse.proofs.Operands.{ParenL, CastOrParenL, PrefixedL, OperandL}
-use Rattle.c_parse.proofs.Maps.{On, Each, Any, Opt, on_same, on_made, on_both, on_either, on_optional, on_lead, on_trail, on_built, each_any, each_made, each_both, each_either, each_optional, each_lead, each_trail, each_built}
+use Rattle.c_parse.proofs.Maps.{On, Any, Opt, on_same, on_made, on_both, on_either, on_optional, on_lead, on_trail, on_built}
 
 -- a height of at most n
 abbrev pub Low : ℕ → {X : Type 0} → X × ℕ → Type 0

@@ -1,37 +1,31 @@
 -- Items and modules are read.
-use Rattle.std.proofs.Common.{ℕ, zero, suc, ◌≡◌, ◌+◌, ◌<◌, ◌≤◌, refl, sym, ◌∙◌, ap, subst, Bool, true, false, nat_eq, if◌then◌else◌, List, [], ◌∷◌, ◌++◌, append_assoc, append-nil, inl, inr, Option, Some, None, arith, eqb-true, eq-eqb}
+use Rattle.std.proofs.Common.{ℕ, zero, suc, ◌≡◌, ◌<◌, refl, sym, ◌∙◌, ap, subst, Bool, true, false, nat_eq, if◌then◌else◌, List, [], ◌∷◌, ◌++◌, append_assoc, append-nil, inl, inr, Option, Some, None, arith}
 use Rattle.c_tree.specs.declared.token.Token.{Token}
 use Rattle.c_tree.specs.declared.token.Punct.TheVariants as p
 use Rattle.c_tree.specs.declared.token.Reserved.TheVariants as w
 use Rattle.c_tree.specs.declared.token.Header.TheVariants.{Stdio}
 use Rattle.c_tree.specs.declared.token.TokenKind.TheVariants as kinds
 use Rattle.c_tree.specs.declared.expression.Identifier.{Identifier}
-use Rattle.c_tree.specs.declared.expression.Specifiers.{Specifiers}
-use Rattle.c_tree.specs.declared.declaration.Module.{Module}
 use Rattle.c_tree.specs.declared.declaration.Item.{Item}
 use Rattle.c_tree.specs.declared.declaration.Item.TheVariants as items
-use Rattle.c_tree.specs.declared.declaration.Declaration.{Declaration}
 use Rattle.c_tree.specs.declared.declaration.Declarator.{Declarator}
 use Rattle.c_tree.specs.declared.declaration.Shape.{Shape}
 use Rattle.c_tree.specs.declared.declaration.Shape.TheVariants as shapes
 use Rattle.c_tree.specs.declared.declaration.Parameter.{Parameter}
 use Rattle.c_tree.specs.declared.declaration.Initialiser.{Initialiser}
-use Rattle.c_tree.specs.declared.statement.Block.{Block}
-use Rattle.c_parse.specs.Classes.{class, punct, word, look, member, classes}
+use Rattle.c_parse.specs.Classes.{punct, word, member, classes}
 use Rattle.c_parse.specs.Languages.{Lang, sign, among, both, either, made, such, absent, optional, lead, trail, built, many, from_left}
-use Rattle.c_parse.specs.Trees.{snoc, single, or_none, or_plain, declarator, declaration, function, include, module_of}
+use Rattle.c_parse.specs.Trees.{snoc, or_none, or_plain, declarator, declaration, include, module_of}
 use Rattle.c_parse.specs.Expressions.{specifier_words, identifier, parenthesised}
-use Rattle.c_parse.specs.Modules.{series, listed, headers, IsTyped, IsParameters, IsShape, IsInitialiser, IsDeclarator, IsDeclaration, IsStmt, IsBlock, IsItem, IsModule}
-use Rattle.c_parse.specs.Reading.{Reply, Found, Wrong, Deep, bind, read_none}
-use Rattle.c_parse.specs.ExpressionReaders.{specifier_first}
-use Rattle.c_parse.specs.ModuleReaders.{Rest, Declares, Defines, item_with, item_of, is_function, plain_function, shape_parameters, read_block, read_others, read_declared, read_item_rest, read_item, item_first, read_module, read_whole}
-use Rattle.c_parse.proofs.Members.{subset, apart, if_true, if_false, member-subset}
-use Rattle.c_parse.proofs.Readers.{Outcome, found, wrong, deep, Agree, Reads, reads_as, reads_made, reads_both, reads_either, reads_absent}
+use Rattle.c_parse.specs.Modules.{listed, headers, IsTyped, IsParameters, IsShape, IsInitialiser, IsDeclarator, IsStmt, IsBlock, IsItem, IsModule}
+use Rattle.c_parse.specs.ModuleReaders.{Rest, Declares, Defines, item_with, item_of, is_function, plain_function, shape_parameters, read_block, read_others, read_declared, read_item_rest, read_item, item_first, read_module}
+use Rattle.c_parse.proofs.Members.{subset, if_true, member-subset}
+use Rattle.c_parse.proofs.Readers.{Reads, reads_as, reads_made, reads_both, reads_either, reads_absent}
 use Rattle.c_parse.proofs.Rows.{reads_built}
 use Rattle.c_parse.proofs.Forks.{reads_fork}
-use Rattle.c_parse.proofs.Words.{subset_self, token, mark, reserved, Some_of, some_sign, reads_sign, reads_among, reads_lead, reads_trail}
-use Rattle.c_parse.proofs.DeclarationRules.{trailed, pair_of, made_of, declarator_follow, comma_or_end, reads_typed, some_typed, reads_declarator, some_declarator}
-use Rattle.c_parse.proofs.StatementRules.{behind, reads_block_over, reads_series, some_series, some_block}
+use Rattle.c_parse.proofs.Words.{token, mark, Some_of, reads_sign, reads_among, reads_lead, reads_trail}
+use Rattle.c_parse.proofs.DeclarationRules.{trailed, declarator_follow, comma_or_end, reads_typed, reads_declarator, some_declarator}
+use Rattle.c_parse.proofs.StatementRules.{reads_block_over, reads_series}
 use Rattle.c_parse.proofs.ModuleRules.{reads_stmt, some_stmt, stmt_good, Good}
 use Rattle.c_parse.proofs.StatementRules.{each_found}
 

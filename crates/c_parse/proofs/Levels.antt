@@ -1,5 +1,5 @@
 -- The binary levels by number, the closest first, and the rules of a level as the code reads them.
-use Rattle.std.proofs.Common.{ℕ, ◌≡◌, ◌+◌, ◌<◌, refl, lit<, Option, Some, None, List}
+use Rattle.std.proofs.Common.{ℕ, ◌≡◌, refl, List}
 use Rattle.c_tree.specs.declared.token.Token.{Token}
 use Rattle.c_parse.specs.declared.precedence.Precedence.{Precedence}
 use Rattle.c_parse.specs.declared.precedence.Precedence.TheVariants.{LogicalOr, LogicalAnd, Or, Xor, And, Equality, Relation, Shift, Sum, Product}
@@ -7,7 +7,7 @@ use Rattle.c_parse.specs.Trees.{Sized}
 use Rattle.c_parse.specs.Expressions.{Rank}
 use Rattle.c_parse.specs.Reading.{Reply}
 use Rattle.c_parse.specs.ExpressionReaders.{read_binary, read_level, read_rank}
-use Rattle.c_parse.specs.Ranks.{level_below, operand_rank, rank_below}
+use Rattle.c_parse.specs.Ranks.{operand_rank, rank_below}
 
 abbrev pub level_of : Precedence → ℕ
 level_of Product = 0

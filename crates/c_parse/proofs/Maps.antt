@@ -1,8 +1,8 @@
 -- Languages word by word: what is spelled in one is spelled in another where its value has a property, and what is
 -- spelled has a property.
-use Rattle.std.proofs.Common.{ℕ, ◌≡◌, refl, sym, subst, Bool, List, [], ◌∷◌, inl, inr, Option, Some, None}
+use Rattle.std.proofs.Common.{ℕ, sym, subst, List, [], ◌∷◌, inl, inr, Option, Some, None}
 use Rattle.c_tree.specs.declared.token.Token.{Token}
-use Rattle.c_parse.specs.Languages.{Lang, sign, both, either, made, absent, optional, lead, trail, many, from_left, built}
+use Rattle.c_parse.specs.Languages.{Lang, sign, both, either, made, optional, lead, trail, many, from_left, built}
 
 abbrev pub On : {A : Type 0} → (A → Type 0) → Lang A → Lang A → Type 0
 On {A} P L M = (a : A) (ws : List Token) → L a ws → P a → M a ws

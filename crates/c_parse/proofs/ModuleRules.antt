@@ -1,34 +1,25 @@
 -- Statements at every height, items and modules are read.
-use Rattle.std.proofs.Common.{ℕ, zero, suc, ◌≡◌, ◌+◌, ◌<◌, ◌≤◌, refl, sym, ◌∙◌, ap, subst, Bool, true, false, nat_eq, if◌then◌else◌, List, [], ◌∷◌, ◌++◌, append_assoc, append-nil, inl, inr, Option, Some, None, arith}
+use Rattle.std.proofs.Common.{ℕ, zero, suc, ◌≡◌, ◌<◌, refl, sym, ◌∙◌, ap, subst, Bool, true, false, nat_eq, if◌then◌else◌, List, [], ◌∷◌, ◌++◌, inl, inr, arith}
 use Rattle.c_tree.specs.declared.token.Token.{Token}
 use Rattle.c_tree.specs.declared.token.Punct.TheVariants as p
 use Rattle.c_tree.specs.declared.token.Reserved.TheVariants as w
-use Rattle.c_tree.specs.declared.token.Header.TheVariants.{Stdio}
-use Rattle.c_tree.specs.declared.token.TokenKind.TheVariants as kinds
 use Rattle.c_tree.specs.declared.expression.Expr.{Expr}
-use Rattle.c_tree.specs.declared.expression.Identifier.{Identifier}
-use Rattle.c_tree.specs.declared.declaration.Module.{Module}
-use Rattle.c_tree.specs.declared.declaration.Item.{Item}
-use Rattle.c_tree.specs.declared.declaration.Item.TheVariants as items
 use Rattle.c_tree.specs.declared.declaration.Declaration.{Declaration}
-use Rattle.c_tree.specs.declared.declaration.Declarator.{Declarator}
-use Rattle.c_tree.specs.declared.declaration.Parameter.{Parameter}
-use Rattle.c_tree.specs.declared.statement.Block.{Block}
 use Rattle.c_tree.specs.declared.statement.Stmt.{Stmt}
-use Rattle.c_parse.specs.Classes.{class, punct, word, look, member, classes}
-use Rattle.c_parse.specs.Languages.{Lang, line_if, sign, both, either, made, such, absent, optional, lead, trail, built}
-use Rattle.c_parse.specs.Trees.{snoc, or_none, or_plain, block, block_statement, empty, expression, if_only, if_else, switch, while, do_while, for, case, default, break, continue, return, closed}
-use Rattle.c_parse.specs.Expressions.{Comma, Conditional, specifier_words, IsExpr}
-use Rattle.c_parse.specs.Modules.{tree, IsDeclaration, IsStmt, IsBlock}
-use Rattle.c_parse.specs.Reading.{Reply, Found, Wrong, Deep, bind, read_sign, read_open, read_both, read_made, read_either, read_fork, read_absent, read_lead, read_trail, read_none, always}
-use Rattle.c_parse.specs.ExpressionReaders.{expr_first, specifier_first, read_expr}
-use Rattle.c_parse.specs.ModuleReaders.{read_tree, read_declaration, stmt_first, read_block_over, read_condition, read_guarded, read_keyword, read_if, read_part, read_head, read_stmt_over, read_stmt, read_block}
-use Rattle.c_parse.proofs.Members.{subset, apart, if_true, if_false, member-subset}
+use Rattle.c_parse.specs.Classes.{class, punct, word, look, member}
+use Rattle.c_parse.specs.Languages.{Lang, line_if, sign, both, lead, trail}
+use Rattle.c_parse.specs.Trees.{block, block_statement, empty, expression, if_only, if_else, switch, while, do_while, for, case, default, break, continue, return, closed}
+use Rattle.c_parse.specs.Expressions.{Comma, Conditional, IsExpr}
+use Rattle.c_parse.specs.Modules.{tree, IsDeclaration, IsStmt}
+use Rattle.c_parse.specs.Reading.{Reply, Found, Wrong, Deep, bind, read_sign, read_open, read_both, read_made, read_absent, read_lead, read_trail, read_none}
+use Rattle.c_parse.specs.ExpressionReaders.{expr_first, read_expr}
+use Rattle.c_parse.specs.ModuleReaders.{read_tree, read_declaration, stmt_first, read_block_over, read_condition, read_guarded, read_keyword, read_if, read_part, read_head, read_stmt_over, read_stmt}
+use Rattle.c_parse.proofs.Members.{subset, if_true, if_false}
 use Rattle.c_parse.proofs.Readers.{Reads}
 use Rattle.c_parse.proofs.Words.{mark, reserved, Some_of, from_sign}
-use Rattle.c_parse.proofs.ExpressionRules.{any_expr, above_zero, outside_of, outside_append, shut_expr, begun_expr, reads_nothing}
+use Rattle.c_parse.proofs.ExpressionRules.{any_expr, above_zero, outside_of, shut_expr, begun_expr, reads_nothing}
 use Rattle.c_parse.proofs.DeclarationRules.{trailed, led_by, pair_of, made_of, some_absent}
-use Rattle.c_parse.proofs.StatementRules.{behind, EachReply, bind_each, any_each, found_each, each_found, some_block, some_series, some_sign_of, reads_block_over, reads_stmt_over, closed_if, closed_else, closed_switch, closed_while, closed_for, closed_case, closed_default, closed_block, closed_empty, closed_expression, closed_do, closed_break, closed_continue, closed_return}
+use Rattle.c_parse.proofs.StatementRules.{behind, EachReply, bind_each, any_each, each_found, some_series, some_sign_of, reads_stmt_over, closed_else, closed_switch, closed_while, closed_for, closed_case, closed_default, closed_block, closed_empty, closed_expression, closed_do, closed_break, closed_continue, closed_return}
 
 -- a statement with an else behind it is closed
 abbrev pub Good : Stmt → List Token → Type 0

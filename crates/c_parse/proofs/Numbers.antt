@@ -1,5 +1,5 @@
 -- Which numbers the classes of punctuators and words are.
-use Rattle.std.proofs.Common.{ℕ, ◌≡◌, ◌<◌, ◌-◌, refl, sym, ◌∙◌, ap, true, false, nat_eq, if◌then◌else◌, get_or, List, [], ◌∷◌, Option, Some, None, is_some, lit<, eqb-true, arith}
+use Rattle.std.proofs.Common.{ℕ, ◌≡◌, ◌<◌, ◌-◌, refl, sym, ◌∙◌, ap, true, false, nat_eq, if◌then◌else◌, get_or, List, [], ◌∷◌, is_some, lit<, arith}
 use Rattle.std.proofs.lemmas.Bool.{ne_eqb}
 use Rattle.c_tree.specs.declared.token.Token.{Token}
 use Rattle.c_tree.specs.declared.token.TokenKind.{TokenKind}

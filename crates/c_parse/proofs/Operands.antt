@@ -1,5 +1,5 @@
 -- What stands before the steps of an expression, with casts and without, in the order of reading.
-use Rattle.std.specs.Prelude.{ℕ, Bool, true, false}
+use Rattle.std.specs.Prelude.{Bool, true, false}
 use Rattle.c_tree.specs.declared.token.Punct.TheVariants as p
 use Rattle.c_parse.specs.Classes.{punct}
 use Rattle.c_parse.specs.Languages.{Lang, sign, among, both, either, made, optional, trail}
@@ -23,4 +23,3 @@ module _ (G : Rank → Lang Sized) where
   abbrev pub OperandL : Bool → Lang Sized
   OperandL true = either CastOrParenL PrefixedL
   OperandL false = either ParenL PrefixedL
-

@@ -1,5 +1,5 @@
 -- Each rank of expressions is read, at every height.
-use Rattle.std.proofs.Common.{ℕ, zero, suc, ◌≡◌, ◌+◌, ◌<◌, ◌≤◌, refl, sym, ◌∙◌, ap, subst, Bool, true, false, nat_eq, List, [], ◌∷◌, ◌++◌, inl, inr, Option, Some, None, is_some, arith}
+use Rattle.std.proofs.Common.{ℕ, zero, suc, ◌≡◌, ◌<◌, ◌≤◌, refl, sym, ◌∙◌, Bool, true, false, nat_eq, List, [], ◌∷◌, ◌++◌, inl, inr, Option, is_some, arith}
 use Rattle.c_tree.specs.declared.token.Token.{Token}
 use Rattle.c_tree.specs.declared.token.Punct.TheVariants as p
 use Rattle.c_tree.specs.declared.expression.BinaryOp.{BinaryOp}
@@ -8,9 +8,9 @@ use Rattle.c_parse.specs.declared.precedence.Precedence.TheVariants.{LogicalOr, 
 use Rattle.c_parse.specs.Classes.{class, punct, look, member, row_of, classes}
 use Rattle.c_parse.specs.Languages.{Lang, lined, among, both, either, made, such, lead}
 use Rattle.c_parse.specs.Trees.{Sized, binary, conditional, assign, comma}
-use Rattle.c_parse.specs.Expressions.{Rank, Comma, Assignment, Conditional, Binary, Cast, Unary, Postfix, operators, assignment_operators, steps, unary_operators, joined, IsRank, IsExpr}
-use Rattle.c_parse.specs.Reading.{Reply, read_row, read_both, read_among, read_lead, always}
-use Rattle.c_parse.specs.ExpressionReaders.{fits, is_unary, is_condition, expr_first, read_unary, read_level, read_product, read_sum, read_shift, read_relation, read_equality, read_and, read_xor, read_or, read_logical_and, read_logical_or, read_conditional, read_assignment, read_comma, read_rank, read_expr}
+use Rattle.c_parse.specs.Expressions.{Rank, Comma, Assignment, Conditional, Binary, Cast, Unary, Postfix, operators, assignment_operators, steps, unary_operators, joined, IsExpr}
+use Rattle.c_parse.specs.Reading.{Reply, read_row, always}
+use Rattle.c_parse.specs.ExpressionReaders.{fits, is_unary, is_condition, expr_first, read_unary, read_level, read_product, read_sum, read_shift, read_relation, read_equality, read_and, read_xor, read_or, read_logical_and, read_logical_or, read_conditional, read_assignment, read_comma, read_expr}
 use Rattle.c_parse.proofs.Members.{subset, apart, if_true, if_false, member-subset}
 use Rattle.c_parse.proofs.Readers.{Reads, reads_as, reads_both}
 use Rattle.c_parse.proofs.Rows.{Grown, reads_row}

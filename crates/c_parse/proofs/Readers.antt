@@ -1,8 +1,8 @@
 -- What reading has to do with a language.
-use Rattle.std.proofs.Common.{ℕ, ◌≡◌, refl, sym, ◌∙◌, ap, subst, Bool, true, false, nat_eq, if◌then◌else◌, List, [], ◌∷◌, ◌++◌, append_assoc, ◌⊎◌, inl, inr, arith, append-nil, eqb-true, eq-eqb, ◌<◌, Option, Some, None, is_some}
+use Rattle.std.proofs.Common.{ℕ, ◌≡◌, refl, sym, ◌∙◌, ap, subst, Bool, true, false, nat_eq, if◌then◌else◌, List, [], ◌∷◌, ◌++◌, append_assoc, ◌⊎◌, inl, inr, append-nil, eqb-true, eq-eqb, Option, Some, None, is_some}
 use Rattle.c_tree.specs.declared.token.Token.{Token}
 use Rattle.c_parse.specs.Classes.{class, look, member}
-use Rattle.c_parse.specs.Languages.{Lang, picked, both, either, made, such, absent}
+use Rattle.c_parse.specs.Languages.{picked, both, either, made, absent}
 use Rattle.c_parse.specs.Reading.{Reply, Found, Wrong, Deep, bind, picked_reply, read_picked, open_reply, read_open, read_both, read_made, read_either, read_absent}
 use Rattle.c_parse.proofs.Members.{subset, apart, look-same, if_true, if_false, member-subset, member-apart, member-left, member-right}
 

@@ -1,5 +1,5 @@
 -- The loops of the code over expressions, and what each rank of the code is.
-use Rattle.std.proofs.Common.{ℕ, zero, suc, ◌≡◌, ◌+◌, ◌<◌, ◌≤◌, ◌-◌, refl, sym, ◌∙◌, ap, subst, Bool, true, false, nat_eq, List, [], ◌∷◌, ◌++◌, arith, length-append, length, Option, Some, None}
+use Rattle.std.proofs.Common.{ℕ, zero, suc, ◌≡◌, ◌+◌, ◌<◌, ◌≤◌, ◌-◌, refl, sym, ◌∙◌, ap, subst, Bool, true, false, List, [], ◌∷◌, ◌++◌, arith, length-append, length, Option, Some, None}
 use Rattle.c_tree.specs.declared.token.Token.{Token}
 use Rattle.c_tree.specs.declared.token.Punct.TheVariants as p
 use Rattle.c_tree.specs.declared.token.Reserved.TheVariants as w
@@ -16,7 +16,7 @@ use Rattle.c_parse.specs.Trees.{Sized}
 use Rattle.c_parse.specs.Expressions.{Rank, Comma, Assignment, Conditional, Binary, Cast, Unary, operators, steps, IsExpr}
 use Rattle.c_parse.specs.Reading.{Reply, Found, Wrong, Deep, bind, read_rest, read_both, read_among, read_lead, always}
 use Rattle.c_parse.specs.ExpressionReaders.{fits, is_postfix, expr_first, read_expr, read_rank, read_binary, read_unary}
-use Rattle.c_parse.specs.Ranks.{rank_of, operand_rank, rank_below, level_below, rank_or_cast}
+use Rattle.c_parse.specs.Ranks.{rank_of, operand_rank, level_below, rank_or_cast}
 use Rattle.c_parse.specs.Parts as parts
 use Rattle.c_parse.proofs.Members.{if_true, if_false}
 use Rattle.c_parse.proofs.Readers.{Outcome, found, wrong, deep, Reads}
@@ -100,7 +100,6 @@ unary_begins n b ts a r e = sym (ap (λ z. bind z (λ a r. read_rest is_postfix 
 pub whole_none : (n : ℕ) (r : Rank) (ts : List Token) → n ≡ 0 → parts.whole n r ts ≡ read_expr 0 r ts
 unfolding parts.whole
 whole_none n r ts e = ap (λ z. read_expr z r ts) e
-
 
 -- lists
 reads_arguments : (n : ℕ) → Reads (row (IsExpr n Assignment)) (row (IsExpr (n + 5) Assignment)) (read_listing (read_expr n Assignment)) (read_listing (read_expr (n + 5) Assignment)) expr_first (λ _. punct p.CloseParen ∷ punct p.CloseBrace ∷ [])

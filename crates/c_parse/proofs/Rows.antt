@@ -2,7 +2,7 @@
 use Rattle.std.proofs.Common.{ℕ, zero, suc, ◌≡◌, refl, sym, ◌∙◌, ap, subst, Bool, true, false, if◌then◌else◌, List, [], ◌∷◌, ◌++◌, append_assoc, append-nil, inl, inr, arith, ◌<◌, ◌≤◌, length, length-append}
 use Rattle.c_tree.specs.declared.token.Token.{Token}
 use Rattle.c_parse.specs.Classes.{class, look, member}
-use Rattle.c_parse.specs.Languages.{many, made, both, built, from_left}
+use Rattle.c_parse.specs.Languages.{many, built, from_left}
 use Rattle.c_parse.specs.Reading.{Reply, Found, Wrong, Deep, bind, read_rest, read_row, read_built, always}
 use Rattle.c_parse.proofs.Members.{subset, apart, look-same, if_true, if_false, member-subset, member-apart}
 use Rattle.c_parse.proofs.Readers.{Alive, Outcome, found, wrong, deep, Agree, Reads, bind_agrees, reads_as, same_test}

@@ -1,8 +1,8 @@
 -- Readers of declarations and statements take tokens.
-use Rattle.std.proofs.Common.{ℕ, zero, suc, ◌≡◌, ◌<◌, ◌≤◌, refl, sym, ◌∙◌, ap, Bool, true, false, if◌then◌else◌, List, [], ◌∷◌, arith, length, Option, Some, None}
+use Rattle.std.proofs.Common.{ℕ, zero, suc, ◌≡◌, ◌<◌, ◌≤◌, refl, sym, ap, Bool, true, false, if◌then◌else◌, List, [], ◌∷◌, arith, length, Some, None}
 use Rattle.c_tree.specs.declared.token.Token.{Token}
 use Rattle.c_parse.specs.Classes.{look, member}
-use Rattle.c_parse.specs.Reading.{Reply, Found, Wrong, Deep, bind, read_picked, read_open, open_reply, read_both, read_made, read_either, read_absent, read_optional, read_lead, read_trail, read_rest, read_row, read_built, always}
+use Rattle.c_parse.specs.Reading.{Reply, Found, Wrong, Deep, bind, read_picked, read_both, read_made, read_either, read_optional, read_lead, read_trail, read_rest, read_row, always}
 use Rattle.c_tree.specs.declared.token.Punct.TheVariants as p
 use Rattle.c_tree.specs.declared.declaration.Shape.TheVariants as shapes
 use Rattle.c_tree.specs.declared.declaration.Initialiser.TheVariants as initialisers

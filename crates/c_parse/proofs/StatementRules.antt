@@ -1,5 +1,5 @@
 -- The rules of statements are read.
-use Rattle.std.proofs.Common.{ℕ, zero, suc, ◌≡◌, ◌+◌, ◌<◌, ◌≤◌, refl, sym, ◌∙◌, ap, subst, Bool, true, false, nat_eq, if◌then◌else◌, List, [], ◌∷◌, ◌++◌, append_assoc, append-nil, inl, inr, Option, Some, None, arith}
+use Rattle.std.proofs.Common.{ℕ, zero, suc, ◌≡◌, ◌<◌, refl, sym, ◌∙◌, ap, subst, Bool, true, false, nat_eq, if◌then◌else◌, List, [], ◌∷◌, ◌++◌, append-nil, inl, inr, Option}
 use Rattle.c_tree.specs.declared.token.Token.{Token}
 use Rattle.c_tree.specs.declared.token.Punct.TheVariants as p
 use Rattle.c_tree.specs.declared.token.Reserved.{Reserved}
@@ -9,22 +9,22 @@ use Rattle.c_tree.specs.declared.declaration.Declaration.{Declaration}
 use Rattle.c_tree.specs.declared.statement.Block.{Block}
 use Rattle.c_tree.specs.declared.statement.Stmt.{Stmt, fold-roll-Stmt}
 use Rattle.c_tree.specs.declared.statement.Stmt.TheOpen.{Stmt-F}
-use Rattle.c_parse.specs.Classes.{class, punct, word, look, member, classes}
-use Rattle.c_parse.specs.Languages.{Lang, line_if, sign, both, either, made, such, absent, optional, lead, trail, built}
+use Rattle.c_parse.specs.Classes.{class, punct, word, look, member}
+use Rattle.c_parse.specs.Languages.{Lang, line_if, sign, both, either, made, such, absent, optional, lead, trail}
 use Rattle.c_parse.specs.Trees.{snoc, block, block_statement, empty, expression, if_only, if_else, switch, while, do_while, for, case, default, break, continue, return, closed_layer, closed}
-use Rattle.c_parse.specs.Expressions.{Rank, Comma, Conditional, specifier_words, IsExpr}
-use Rattle.c_parse.specs.Modules.{series, tree, IsDeclaration, IsBlockOver, IsGuarded, IsIf, IsHead, IsStmtOver, IsStmt, IsBlock}
-use Rattle.c_parse.specs.Reading.{Reply, Found, Wrong, Deep, bind, read_sign, read_open, read_both, read_made, read_either, read_absent, read_optional, read_lead, read_trail, read_none, read_built, always}
+use Rattle.c_parse.specs.Expressions.{Comma, Conditional, IsExpr}
+use Rattle.c_parse.specs.Modules.{series, tree, IsDeclaration, IsBlockOver, IsGuarded, IsHead, IsStmt}
+use Rattle.c_parse.specs.Reading.{Reply, Found, Wrong, Deep, bind, read_sign, read_open, read_both, read_made, read_lead, read_trail, always}
 use Rattle.c_parse.specs.ExpressionReaders.{expr_first, specifier_first, read_expr}
-use Rattle.c_parse.specs.ModuleReaders.{read_tree, read_series, read_declaration, stmt_first, read_block_over, read_condition, read_guarded, read_keyword, read_if, read_part, read_head, read_stmt_over, read_stmt, read_block}
-use Rattle.c_parse.proofs.Members.{subset, apart, if_true, if_false, member-subset, member-apart, sign_exact}
+use Rattle.c_parse.specs.ModuleReaders.{read_tree, read_series, read_declaration, stmt_first, read_block_over, read_condition, read_guarded, read_if, read_part, read_head, read_stmt}
+use Rattle.c_parse.proofs.Members.{subset, apart, member-subset, sign_exact}
 use Rattle.c_parse.proofs.Readers.{Reads, reads_as, reads_opened, reads_made, reads_both, reads_either, reads_absent}
 use Rattle.c_parse.proofs.Rows.{reads_built}
 use Rattle.c_parse.proofs.Forks.{reads_fork}
 use Rattle.c_parse.proofs.Words.{subset_self, subset_left, subset_right, mark, reserved, Some_of, has_line, some_sign, reads_sign, reads_lead, reads_trail, reads_optional}
-use Rattle.c_parse.proofs.ExpressionRules.{after_comma, after_conditional, any_expr, none_expr, above_zero, not_zero, outside_of, shut_expr, begun_expr, reads_nothing}
-use Rattle.c_parse.proofs.Ranks.{reads_expr, narrow}
-use Rattle.c_parse.proofs.DeclarationRules.{trailed, led_by, pair_of, made_of, some_absent, some_declaration, reads_declaration}
+use Rattle.c_parse.proofs.ExpressionRules.{after_comma, after_conditional, any_expr, above_zero, not_zero}
+use Rattle.c_parse.proofs.Ranks.{reads_expr}
+use Rattle.c_parse.proofs.DeclarationRules.{trailed, led_by, pair_of, made_of, some_absent, reads_declaration}
 
 abbrev pub after_stmt : List ℕ
 after_stmt = punct p.CloseBrace ∷ stmt_first

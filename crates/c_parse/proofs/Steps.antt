@@ -1,11 +1,11 @@
 -- What a loop of the code keeps: a value grows by one reader again and again.
-use Rattle.std.proofs.Common.{ℕ, zero, suc, ◌≡◌, ◌<◌, ◌≤◌, refl, sym, ◌∙◌, ap, subst, Bool, true, false, nat_eq, if◌then◌else◌, List, [], ◌∷◌, ◌++◌, arith, length, length-append, Option, Some, None}
+use Rattle.std.proofs.Common.{ℕ, zero, suc, ◌≡◌, ◌<◌, ◌≤◌, refl, sym, ◌∙◌, ap, Bool, true, false, if◌then◌else◌, List, [], ◌∷◌, arith, length, length-append, Option, Some, None}
 use Rattle.c_tree.specs.declared.token.Token.{Token}
 use Rattle.c_parse.specs.declared.refusal.Refusal.{Refusal}
 use Rattle.c_parse.specs.declared.refusal.Refusal.TheVariants as refusals
-use Rattle.c_parse.specs.Classes.{class, look, member}
-use Rattle.c_parse.specs.Languages.{line_if, sign}
-use Rattle.c_parse.specs.Reading.{Reply, Found, Wrong, Deep, bind, picked_reply, read_picked, read_sign, read_among, read_both, read_lead, read_optional, read_rest, always}
+use Rattle.c_parse.specs.Classes.{look, member}
+use Rattle.c_parse.specs.Languages.{line_if}
+use Rattle.c_parse.specs.Reading.{Reply, Found, Wrong, Deep, bind, picked_reply, read_picked, read_sign, read_both, read_lead, read_optional, read_rest}
 use Rattle.c_parse.specs.Gives.{Fails}
 use Rattle.c_parse.proofs.Members.{if_true, if_false}
 use Rattle.c_parse.proofs.Readers.{Outcome, found, wrong, deep, Reads}

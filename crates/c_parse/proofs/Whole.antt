@@ -1,5 +1,5 @@
 -- From reading to whole lists of tokens.
-use Rattle.std.proofs.Common.{ℕ, zero, suc, ◌≡◌, ◌+◌, ◌-◌, ◌<◌, ◌≤◌, refl, sym, ◌∙◌, ap, subst, Bool, true, false, nat_eq, if◌then◌else◌, List, [], ◌∷◌, ◌++◌, append_assoc, append-nil, ◌⊎◌, inl, inr, Option, Some, None, arith, eqb-true, length, take, length-append, lit<}
+use Rattle.std.proofs.Common.{ℕ, suc, ◌≡◌, ◌+◌, ◌<◌, ◌≤◌, refl, sym, ◌∙◌, ap, subst, Bool, true, false, nat_eq, if◌then◌else◌, List, [], ◌∷◌, ◌++◌, append_assoc, append-nil, ◌⊎◌, inl, inr, arith, length, take, length-append}
 use Rattle.std.proofs.lemmas.Bool.{ne_eqb}
 use Rattle.std.proofs.Math.Seq.{take-append_seam, take-append-add}
 use Rattle.c_tree.specs.declared.token.Token.{Token}
@@ -7,16 +7,15 @@ use Rattle.c_tree.specs.declared.token.TokenKind.{TokenKind}
 use Rattle.c_tree.specs.declared.token.TokenKind.TheVariants as kinds
 use Rattle.c_tree.specs.declared.token.Header.TheVariants as headers
 use Rattle.c_tree.specs.declared.declaration.Module.{Module}
-use Rattle.c_parse.specs.declared.fault.ParseKind.{ParseKind}
 use Rattle.c_parse.specs.declared.fault.ParseKind.TheVariants as faults
-use Rattle.c_parse.specs.Classes.{class, kind_class, punct, word, look, member}
+use Rattle.c_parse.specs.Classes.{class, kind_class, punct, word, look}
 use Rattle.c_parse.specs.Trees.{module_of}
 use Rattle.c_parse.specs.Modules.{IsModule}
-use Rattle.c_parse.specs.Promise.{Spells, limit, IsAccepted, Continues, GoesOn, Cause, IsFault, line_at}
+use Rattle.c_parse.specs.Promise.{Spells, limit, IsAccepted, Continues, GoesOn, IsFault}
 use Rattle.c_parse.specs.Reading.{Reply, Found, Wrong, Deep, bind}
 use Rattle.c_parse.specs.ModuleReaders.{read_module, read_whole}
-use Rattle.c_parse.proofs.Members.{if_true, if_false}
-use Rattle.c_parse.proofs.Readers.{Alive, Outcome, found, wrong, deep, Agree, Reads, bind_agrees}
+use Rattle.c_parse.proofs.Members.{if_false}
+use Rattle.c_parse.proofs.Readers.{Alive, Outcome, found, wrong, deep, Agree, bind_agrees}
 use Rattle.c_parse.proofs.Numbers.{punct_above, word_above}
 use Rattle.c_parse.proofs.ItemRules.{reads_module}
 

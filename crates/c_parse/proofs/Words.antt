@@ -1,5 +1,5 @@
 -- The readers of the words that are made of others.
-use Rattle.std.proofs.Common.{ℕ, ◌≡◌, refl, sym, ◌∙◌, ap, subst, Bool, true, false, nat_eq, if◌then◌else◌, List, [], ◌∷◌, ◌++◌, append-nil, inl, inr, Option, Some, None, is_some, eq-eqb}
+use Rattle.std.proofs.Common.{ℕ, ◌≡◌, refl, sym, ◌∙◌, ap, true, false, nat_eq, if◌then◌else◌, List, [], ◌∷◌, ◌++◌, append-nil, Some, None, is_some, eq-eqb}
 use Rattle.c_tree.specs.declared.token.Token.{Token}
 use Rattle.c_tree.specs.declared.token.TokenKind.{TokenKind}
 use Rattle.c_tree.specs.declared.token.TokenKind.TheVariants as kinds
@@ -9,14 +9,14 @@ use Rattle.c_tree.specs.declared.token.Reserved.{Reserved}
 use Rattle.c_tree.specs.declared.expression.Identifier.{Identifier}
 use Rattle.hlo_num.specs.declared.word.Ty.TheVariants.{Int}
 use Rattle.c_parse.proofs.Numbers.{name_exact, constant_exact}
-use Rattle.c_parse.specs.Classes.{class, kind_class, punct, word, look, member, row_of, classes}
-use Rattle.c_parse.specs.Languages.{Lang, picked, line_if, lined, sign, among, both, either, made, absent, optional, lead, trail, built}
-use Rattle.c_parse.specs.Trees.{Sized, kind_name, name_of, kind_constant, constant_of}
+use Rattle.c_parse.specs.Classes.{class, punct, look, member, row_of, classes}
+use Rattle.c_parse.specs.Languages.{line_if, lined, sign, among, made, optional, lead, trail, built}
+use Rattle.c_parse.specs.Trees.{Sized, name_of, constant_of}
 use Rattle.c_parse.specs.Expressions.{identifier, constant}
-use Rattle.c_parse.specs.Reading.{Reply, Found, picked_reply, read_picked, read_sign, read_among, read_open, read_both, read_made, read_either, read_absent, read_optional, read_lead, read_trail, read_open_lead, read_built}
-use Rattle.c_parse.proofs.Members.{row_exact, subset, apart, if_true, member-subset, member-left, member-right, member-self, among_exact, sign_exact}
+use Rattle.c_parse.specs.Reading.{Reply, Found, picked_reply, read_picked, read_sign, read_among, read_made, read_optional, read_lead, read_trail, read_built}
+use Rattle.c_parse.proofs.Members.{row_exact, subset, apart, if_true, member-subset, member-left, member-right, among_exact, sign_exact}
 use Rattle.c_parse.proofs.Rows.{reads_built}
-use Rattle.c_parse.proofs.Readers.{Reads, reads_picked, reads_opened, reads_made, reads_both, reads_either, reads_absent, some_front}
+use Rattle.c_parse.proofs.Readers.{Reads, reads_picked, reads_made, reads_both, reads_either, reads_absent, some_front}
 
 pub subset_of : (xs ys : List ℕ) → ((k : ℕ) → member k xs ≡ true → member k ys ≡ true) → subset xs ys ≡ true
 subset_of [] ys f = refl
@@ -95,6 +95,7 @@ some_listed first g x = (first x.0, x.1, ((first x.0, []), refl, (x.1, [], sym (
 
 -- the front token, where a table has its class
 pub among_front : {A : Type 0} (table : List (ℕ × A)) (ts : List Token) (t : Token) (rest : List Token) (a : A) → ts ≡ t ∷ rest → row_of (class t) table ≡ Some a → (member (look ts) (classes table) ≡ true) × (read_among table ts ≡ Found (a, t.line) rest)
-among_front table ts t rest a e h =
-    (ap (λ z. member (look z) (classes table)) e ∙ row_exact (class t) table ∙ ap is_some h,
-    ap (read_among table) e ∙ ap (λ z. picked_reply t rest (lined t.line z)) h)
+among_front table ts t rest a e h = (
+  ap (λ z. member (look z) (classes table)) e ∙ row_exact (class t) table ∙ ap is_some h,
+  ap (read_among table) e ∙ ap (λ z. picked_reply t rest (lined t.line z)) h,
+)

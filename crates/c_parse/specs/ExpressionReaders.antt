@@ -1,10 +1,10 @@
 -- How expressions are read: the rules of the grammar from left to right. `n` is the height that the parts of a
 -- node may have.
-use Rattle.std.specs.Prelude.{ℕ, zero, suc, Bool, true, false, not, nat_eq, nat_le, if◌then◌else◌, List, [], ◌∷◌, ◌++◌, Option, Some, None}
+use Rattle.std.specs.Prelude.{ℕ, zero, suc, Bool, true, false, nat_eq, nat_le, if◌then◌else◌, List, [], ◌∷◌, ◌++◌}
 use Rattle.c_tree.specs.declared.token.Token.{Token}
 use Rattle.c_tree.specs.declared.token.Punct.TheVariants as p
 use Rattle.c_tree.specs.declared.token.Reserved.TheVariants as w
-use Rattle.c_tree.specs.declared.expression.Expr.{Expr, out-Expr}
+use Rattle.c_tree.specs.declared.expression.Expr.{out-Expr}
 use Rattle.c_tree.specs.declared.expression.Expr.TheOpen.{Expr-F}
 use Rattle.c_tree.specs.declared.expression.Identifier.{Identifier}
 use Rattle.c_tree.specs.declared.expression.Specifiers.{Specifiers}

@@ -4,7 +4,6 @@
 use Rattle.std.specs.Prelude.{ℕ, zero, suc, List, [], ◌∷◌, Option, Some, None}
 use Rattle.c_tree.specs.declared.token.Punct.TheVariants as p
 use Rattle.c_tree.specs.declared.token.Reserved.TheVariants as w
-use Rattle.c_tree.specs.declared.expression.Expr.{Expr}
 use Rattle.c_tree.specs.declared.expression.Identifier.{Identifier}
 use Rattle.c_tree.specs.declared.expression.Specifiers.{Specifiers}
 use Rattle.c_tree.specs.declared.expression.Specifier.{Specifier}
@@ -21,7 +20,7 @@ use Rattle.c_parse.specs.declared.precedence.Precedence.{Precedence}
 use Rattle.c_parse.specs.declared.precedence.Precedence.TheVariants.{LogicalOr, LogicalAnd, Or, Xor, And, Equality, Relation, Shift, Sum, Product}
 use Rattle.c_parse.specs.Classes.{punct, word}
 use Rattle.c_parse.specs.Languages.{Lang, picked, sign, among, both, either, made, optional, lead, trail, built}
-use Rattle.c_parse.specs.Trees.{Sized, add, one, all_or_none, name_of, constant_of, Suffix, Subscript, Arguments, named, paren, postfix, prefix, unary, cast, binary, conditional, assign, comma, enumerator, EnumRest, Tagged, Untagged, enum, specifier_word, first_specifier, next_specifier, specifiers}
+use Rattle.c_parse.specs.Trees.{Sized, add, one, all_or_none, name_of, constant_of, Suffix, Subscript, Arguments, named, paren, postfix, prefix, unary, cast, binary, conditional, assign, comma, enumerator, Tagged, Untagged, enum, specifier_word, first_specifier, next_specifier, specifiers}
 
 -- the ranks, the loosest first
 pub data Rank : Type 0 where

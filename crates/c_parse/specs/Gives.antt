@@ -1,5 +1,5 @@
 -- What a function of the parser returns, beside what reading gives.
-use Rattle.std.specs.Prelude.{ℕ, ◌≡◌, Bool, true, false, List, Option, Some, None, Result, Ok, Err}
+use Rattle.std.specs.Prelude.{◌≡◌, Bool, true, false, List, Option, Some, None, Result, Ok, Err}
 use Rattle.c_tree.specs.declared.token.Token.{Token}
 use Rattle.c_parse.specs.declared.refusal.Refusal.{Refusal}
 use Rattle.c_parse.specs.declared.refusal.Refusal.TheVariants as refusals

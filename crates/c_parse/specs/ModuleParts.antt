@@ -1,6 +1,6 @@
 -- The readers of declarations, statements and modules, one for each function of the parser, each over those that it
 -- calls. `n` bounds the height of each top, `k` that of the parts of the statement at hand.
-use Rattle.std.specs.Prelude.{ℕ, zero, suc, Bool, true, false, nat_eq, if◌then◌else◌, List, [], ◌∷◌, length, Option, Some, None}
+use Rattle.std.specs.Prelude.{ℕ, zero, List, [], ◌∷◌, length, Option}
 use Rattle.c_tree.specs.declared.token.Token.{Token}
 use Rattle.c_tree.specs.declared.token.Punct.TheVariants as p
 use Rattle.c_tree.specs.declared.token.Reserved.TheVariants as w
@@ -17,15 +17,14 @@ use Rattle.c_tree.specs.declared.declaration.Initialiser.{Initialiser}
 use Rattle.c_tree.specs.declared.declaration.Initialiser.TheVariants as initialisers
 use Rattle.c_tree.specs.declared.statement.Block.{Block}
 use Rattle.c_tree.specs.declared.statement.Stmt.{Stmt}
-use Rattle.c_parse.specs.Classes.{punct, word, classes, look, member}
+use Rattle.c_parse.specs.Classes.{punct, word}
 use Rattle.c_parse.specs.Languages.{line_if}
 use Rattle.c_parse.specs.Trees as trees
 use Rattle.c_parse.specs.Trees.{snoc, single, or_none, or_plain}
 use Rattle.c_parse.specs.Expressions.{Rank, Comma, Assignment, Conditional}
-use Rattle.c_parse.specs.Modules.{headers}
-use Rattle.c_parse.specs.Reading.{Reply, Found, Wrong, bind, read_fork, read_sign, read_among, read_open, read_both, read_made, read_either, read_absent, read_optional, read_lead, read_trail, read_none, read_rest, read_row, read_built, always}
+use Rattle.c_parse.specs.Reading.{Reply, Found, bind, read_fork, read_sign, read_open, read_both, read_made, read_either, read_absent, read_optional, read_lead, read_trail, read_rest, read_row, read_built, always}
 use Rattle.c_parse.specs.ExpressionReaders.{expr_first, specifier_first, read_identifier}
-use Rattle.c_parse.specs.ModuleReaders.{read_tree, read_series, first_element, next_element, is_open, is_function, Declares, Defines, item_with, stmt_first, item_first, read_stmt, read_declared, read_item, read_whole}
+use Rattle.c_parse.specs.ModuleReaders.{read_tree, read_series, first_element, next_element, is_open, item_with, stmt_first, read_stmt, read_declared, read_item, read_whole}
 use Rattle.c_parse.specs.Parts.{whole, specifiers}
 
 unfoldable pub top_expression : ℕ → Rank → List Token → Reply Expr

@@ -5,7 +5,6 @@ use Rattle.c_tree.specs.declared.token.Token.{Token}
 use Rattle.c_tree.specs.declared.token.Punct.TheVariants as p
 use Rattle.c_tree.specs.declared.token.Reserved.TheVariants as w
 use Rattle.c_tree.specs.declared.expression.Expr.{Expr}
-use Rattle.c_tree.specs.declared.expression.Identifier.{Identifier}
 use Rattle.c_tree.specs.declared.expression.Specifiers.{Specifiers}
 use Rattle.c_tree.specs.declared.declaration.Module.{Module}
 use Rattle.c_tree.specs.declared.declaration.Item.{Item}
@@ -21,7 +20,7 @@ use Rattle.c_tree.specs.declared.statement.Block.{Block}
 use Rattle.c_tree.specs.declared.statement.Stmt.{Stmt}
 use Rattle.c_parse.specs.Classes.{punct, word, classes, look}
 use Rattle.c_parse.specs.Languages.{line_if}
-use Rattle.c_parse.specs.Trees.{Sized, snoc, single, or_none, or_plain, declarator, elements, parameter, declaration, function, include, module_of, block, block_statement, empty, expression, if_only, if_else, switch, while, do_while, for, case, default, break, continue, return}
+use Rattle.c_parse.specs.Trees.{snoc, single, or_none, or_plain, declarator, elements, parameter, declaration, function, include, module_of, block, block_statement, empty, expression, if_only, if_else, switch, while, do_while, for, case, default, break, continue, return}
 use Rattle.c_parse.specs.Expressions.{Comma, Assignment, Conditional}
 use Rattle.c_parse.specs.Modules.{headers}
 use Rattle.c_parse.specs.Reading.{Reply, Found, Wrong, bind, read_sign, read_among, read_open, read_both, read_made, read_either, read_absent, read_optional, read_lead, read_trail, read_none, read_fork, read_row, read_built, always}

@@ -1,14 +1,12 @@
 -- The grammar of declarations, statements and modules (ISO C90, 6.5 to 6.7). In each definition n bounds the
 -- height of every statement and expression; lengths, values of enumerations, initialisers and the bodies of
 -- functions are each at the top of a tree of their own.
-use Rattle.std.specs.Prelude.{ℕ, zero, suc, ◌≡◌, List, [], ◌∷◌, Option, Some}
-use Rattle.c_tree.specs.declared.token.Token.{Token}
+use Rattle.std.specs.Prelude.{ℕ, zero, suc, List, [], ◌∷◌, Option}
 use Rattle.c_tree.specs.declared.token.Header.{Header}
 use Rattle.c_tree.specs.declared.token.Header.TheVariants.{Stdio, Stdlib}
 use Rattle.c_tree.specs.declared.token.Punct.TheVariants as p
 use Rattle.c_tree.specs.declared.token.Reserved.TheVariants as w
 use Rattle.c_tree.specs.declared.expression.Expr.{Expr}
-use Rattle.c_tree.specs.declared.expression.Identifier.{Identifier}
 use Rattle.c_tree.specs.declared.expression.Specifiers.{Specifiers}
 use Rattle.c_tree.specs.declared.declaration.Module.{Module}
 use Rattle.c_tree.specs.declared.declaration.Item.{Item}
@@ -24,8 +22,8 @@ use Rattle.c_tree.specs.declared.statement.Block.{Block}
 use Rattle.c_tree.specs.declared.statement.Stmt.{Stmt}
 use Rattle.c_parse.specs.Classes.{punct, word, header}
 use Rattle.c_parse.specs.Languages.{Lang, sign, among, both, either, made, such, absent, optional, lead, trail, built}
-use Rattle.c_parse.specs.Trees.{Sized, snoc, single, or_none, or_plain, declarator, elements, parameter, declaration, function, include, module_of, block, block_statement, empty, expression, if_only, if_else, switch, while, do_while, for, case, default, break, continue, return, closed}
-use Rattle.c_parse.specs.Expressions.{Rank, Comma, Assignment, Conditional, identifier, parenthesised, bracketed, braced, IsSpecifiers, IsExpr}
+use Rattle.c_parse.specs.Trees.{snoc, single, or_none, or_plain, declarator, elements, parameter, declaration, function, include, module_of, block, block_statement, empty, expression, if_only, if_else, switch, while, do_while, for, case, default, break, continue, return, closed}
+use Rattle.c_parse.specs.Expressions.{Comma, Assignment, Conditional, identifier, parenthesised, bracketed, IsSpecifiers, IsExpr}
 
 -- {L}; L {"," L}
 abbrev pub series : {A : Type 0} → Lang A → Lang (List A)

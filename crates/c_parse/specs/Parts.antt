@@ -1,6 +1,6 @@
 -- The readers of expressions, one for each function of the parser, each over those that it calls; `n` is the height
 -- that the parts of the node at hand may have.
-use Rattle.std.specs.Prelude.{ℕ, Bool, true, false, if◌then◌else◌, List, [], ◌∷◌, Option, Some, None}
+use Rattle.std.specs.Prelude.{ℕ, Bool, true, false, List, [], ◌∷◌}
 use Rattle.c_tree.specs.declared.token.Token.{Token}
 use Rattle.c_tree.specs.declared.token.Punct.TheVariants as p
 use Rattle.c_tree.specs.declared.token.Reserved.TheVariants as w
@@ -14,7 +14,7 @@ use Rattle.c_parse.specs.Classes.{class, punct, word, classes, row_of}
 use Rattle.c_parse.specs.Languages.{line_if, lined}
 use Rattle.c_parse.specs.Trees as trees
 use Rattle.c_parse.specs.Trees.{Sized}
-use Rattle.c_parse.specs.Expressions.{Rank, Comma, Assignment, Conditional, Binary, Cast, Unary, operators, assignment_operators, steps, unary_operators, specifier_words}
+use Rattle.c_parse.specs.Expressions.{Rank, Comma, Assignment, Conditional, Cast, Unary, operators, assignment_operators, steps, unary_operators, specifier_words}
 use Rattle.c_parse.specs.Reading.{Reply, read_picked, read_sign, read_among, read_open, read_both, read_made, read_either, read_optional, read_lead, read_trail, read_open_lead, read_row, read_built, always}
 use Rattle.c_parse.specs.ExpressionReaders.{fits, is_postfix, is_unary, is_condition, expr_first, specifier_first, read_identifier, read_expr, read_rank, opened, Typed, Inner}
 use Rattle.c_parse.specs.Ranks.{operand_rank, rank_below}

@@ -1,7 +1,6 @@
 -- The trees that the rules make. An expression comes with its height: a leaf has height 1, another node one
 -- more than its highest part. The parts of a cast are its operand and the values in its type.
 use Rattle.std.specs.Prelude.{ℕ, ◌+◌, max, Bool, true, false, List, [], ◌∷◌, ◌++◌, Option, Some, None}
-use Rattle.hlo_num.specs.declared.word.Ty.{Ty}
 use Rattle.c_tree.specs.declared.token.Token.{Token}
 use Rattle.c_tree.specs.declared.token.TokenKind.{TokenKind}
 use Rattle.c_tree.specs.declared.token.TokenKind.TheVariants as kinds
@@ -19,7 +18,6 @@ use Rattle.c_tree.specs.declared.declaration.Module.{Module}
 use Rattle.c_tree.specs.declared.declaration.Item.{Item}
 use Rattle.c_tree.specs.declared.declaration.Item.TheVariants as items
 use Rattle.c_tree.specs.declared.declaration.Declaration.{Declaration}
-use Rattle.c_tree.specs.declared.declaration.Function.{Function}
 use Rattle.c_tree.specs.declared.declaration.Declarator.{Declarator}
 use Rattle.c_tree.specs.declared.declaration.Shape.{Shape}
 use Rattle.c_tree.specs.declared.declaration.Shape.TheVariants as shapes

@@ -146,11 +146,7 @@ fn initialiser(alloc: Global, top: u16, t: &[Token]) -> Result<(Initialiser, &[T
 }
 
 #[tactic(auto, unfolding(crate::specs::ModuleParts::declarator))]
-pub fn declarator(
-    alloc: Global,
-    top: u16,
-    t: &[Token],
-) -> Result<(Declarator, &[Token]), Refusal>
+pub fn declarator(alloc: Global, top: u16, t: &[Token]) -> Result<(Declarator, &[Token]), Refusal>
     ensures { Gives (λ x. (x.0, x.1.now)) result (parts.declarator top t.now) }
 {
     let (name, rest) = front::identifier(alloc, t)?;
@@ -197,11 +193,7 @@ fn declarator_list(
 
 /// A declaration of a block.
 #[tactic(auto, unfolding(crate::specs::ModuleParts::declaration))]
-pub fn declaration(
-    alloc: Global,
-    top: u16,
-    t: &[Token],
-) -> Result<(Declaration, &[Token]), Refusal>
+pub fn declaration(alloc: Global, top: u16, t: &[Token]) -> Result<(Declaration, &[Token]), Refusal>
     ensures { Gives (λ x. (x.0, x.1.now)) result (parts.declaration top t.now) }
 {
     let (specifiers, rest) = typed(alloc, top, t)?;

@@ -217,14 +217,16 @@ fn constant(t: &[Token]) -> Result<(Measured, &[Token]), Refusal>
     ensures gives { Gives (λ x. ((x.0.expr, x.0.height), x.1.now)) result (read_picked trees.constant_of t.now) }
 {
     match t.split_first() {
-        Some((
-            Token {
-                kind: TokenKind::Constant { value, ty },
-                line,
-                ..
-            },
-            rest,
-        )) => {
+        Some(
+            (
+                Token {
+                    kind: TokenKind::Constant { value, ty },
+                    line,
+                    ..
+                },
+                rest,
+            ),
+        ) => {
             let expr = Expr::Constant {
                 line: *line,
                 value: *value,
@@ -313,11 +315,7 @@ pub fn specifiers(
 
 #[cycle(expression)]
 #[tactic(auto, unfolding(crate::specs::Parts::specifier))]
-fn specifier(
-    alloc: Global,
-    depth: u16,
-    t: &[Token],
-) -> Result<(Specifier, u32, &[Token]), Refusal>
+fn specifier(alloc: Global, depth: u16, t: &[Token]) -> Result<(Specifier, u32, &[Token]), Refusal>
     ensures gives { Gives (λ x. ((x.0, x.1), x.2.now)) result (parts.specifier depth t.now) }
 {
     if let Some((word, line, rest)) = front::specifier_word(t) {

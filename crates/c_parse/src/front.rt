@@ -12,7 +12,9 @@ ghost use Rattle.c_parse.specs.Gives.{Gives, Takes};
 
 use crate::precedence::Precedence;
 use crate::refusal::Refusal;
-use c_tree::{BinaryOp, Header, Identifier, Punct, Reserved, SpecifierWord, Step, Token, TokenKind, UnaryOp};
+use c_tree::{
+    BinaryOp, Header, Identifier, Punct, Reserved, SpecifierWord, Step, Token, TokenKind, UnaryOp,
+};
 use hlo_num::Name;
 use std::alloc::Global;
 
@@ -21,10 +23,12 @@ pub fn at(p: Punct, t: &[Token]) -> bool
     ensures { result ≡ member (look t.now) (punct p ∷ []) }
 {
     match t.first() {
-        Some(Token {
-            kind: TokenKind::Punct(q),
-            ..
-        }) => *q == p,
+        Some(
+            Token {
+                kind: TokenKind::Punct(q),
+                ..
+            },
+        ) => *q == p,
         _ => false,
     }
 }
@@ -34,10 +38,12 @@ pub fn at_word(w: Reserved, t: &[Token]) -> bool
     ensures { result ≡ member (look t.now) (word w ∷ []) }
 {
     match t.first() {
-        Some(Token {
-            kind: TokenKind::Word(r),
-            ..
-        }) => *r == w,
+        Some(
+            Token {
+                kind: TokenKind::Word(r),
+                ..
+            },
+        ) => *r == w,
         _ => false,
     }
 }
@@ -188,14 +194,16 @@ pub fn operator(q: Precedence, t: &[Token]) -> Option<(BinaryOp, u32, &[Token])>
     ensures { Takes (λ x. ((x.0, x.1), x.2.now)) result (member (look t.now) (classes (operators q))) (read_among (operators q) t.now) }
 {
     match t.split_first() {
-        Some((
-            Token {
-                kind: TokenKind::Punct(p),
-                line,
-                ..
-            },
-            rest,
-        )) => {
+        Some(
+            (
+                Token {
+                    kind: TokenKind::Punct(p),
+                    line,
+                    ..
+                },
+                rest,
+            ),
+        ) => {
             let op = binary_operator(q, *p)?;
             Some((op, *line, rest))
         }
@@ -208,14 +216,16 @@ pub fn step(t: &[Token]) -> Option<(Step, u32, &[Token])>
     ensures { Takes (λ x. ((x.0, x.1), x.2.now)) result (member (look t.now) (classes steps)) (read_among steps t.now) }
 {
     match t.split_first() {
-        Some((
-            Token {
-                kind: TokenKind::Punct(p),
-                line,
-                ..
-            },
-            rest,
-        )) => {
+        Some(
+            (
+                Token {
+                    kind: TokenKind::Punct(p),
+                    line,
+                    ..
+                },
+                rest,
+            ),
+        ) => {
             let step = step_of(*p)?;
             Some((step, *line, rest))
         }
@@ -228,14 +238,16 @@ pub fn unary_operator(t: &[Token]) -> Option<(UnaryOp, u32, &[Token])>
     ensures { Takes (λ x. ((x.0, x.1), x.2.now)) result (member (look t.now) (classes unary_operators)) (read_among unary_operators t.now) }
 {
     match t.split_first() {
-        Some((
-            Token {
-                kind: TokenKind::Punct(p),
-                line,
-                ..
-            },
-            rest,
-        )) => {
+        Some(
+            (
+                Token {
+                    kind: TokenKind::Punct(p),
+                    line,
+                    ..
+                },
+                rest,
+            ),
+        ) => {
             let op = unary_of(*p)?;
             Some((op, *line, rest))
         }
@@ -248,14 +260,16 @@ pub fn assignment_operator(t: &[Token]) -> Option<(Option<BinaryOp>, u32, &[Toke
     ensures { Takes (λ x. ((x.0, x.1), x.2.now)) result (member (look t.now) (classes assignment_operators)) (read_among assignment_operators t.now) }
 {
     match t.split_first() {
-        Some((
-            Token {
-                kind: TokenKind::Punct(p),
-                line,
-                ..
-            },
-            rest,
-        )) => {
+        Some(
+            (
+                Token {
+                    kind: TokenKind::Punct(p),
+                    line,
+                    ..
+                },
+                rest,
+            ),
+        ) => {
             let op = assignment_of(*p)?;
             Some((op, *line, rest))
         }
@@ -268,14 +282,16 @@ pub fn specifier_word(t: &[Token]) -> Option<(SpecifierWord, u32, &[Token])>
     ensures { Takes (λ x. ((x.0, x.1), x.2.now)) result (member (look t.now) (classes specifier_words)) (read_among specifier_words t.now) }
 {
     match t.split_first() {
-        Some((
-            Token {
-                kind: TokenKind::Word(w),
-                line,
-                ..
-            },
-            rest,
-        )) => {
+        Some(
+            (
+                Token {
+                    kind: TokenKind::Word(w),
+                    line,
+                    ..
+                },
+                rest,
+            ),
+        ) => {
             let word = specifier_of(*w)?;
             Some((word, *line, rest))
         }
@@ -288,14 +304,16 @@ pub fn include(t: &[Token]) -> Option<(Header, u32, &[Token])>
     ensures { Takes (λ x. ((x.0, x.1), x.2.now)) result (member (look t.now) (classes headers)) (read_among headers t.now) }
 {
     match t.split_first() {
-        Some((
-            Token {
-                kind: TokenKind::Include(header),
-                line,
-                ..
-            },
-            rest,
-        )) => Some((*header, *line, rest)),
+        Some(
+            (
+                Token {
+                    kind: TokenKind::Include(header),
+                    line,
+                    ..
+                },
+                rest,
+            ),
+        ) => Some((*header, *line, rest)),
         _ => None,
     }
 }
@@ -305,14 +323,16 @@ pub fn identifier(alloc: Global, t: &[Token]) -> Result<(Identifier, &[Token]), 
     ensures { Gives (λ x. (x.0, x.1.now)) result (read_picked name_of t.now) }
 {
     match t.split_first() {
-        Some((
-            Token {
-                kind: TokenKind::Name(name),
-                line,
-                ..
-            },
-            rest,
-        )) => {
+        Some(
+            (
+                Token {
+                    kind: TokenKind::Name(name),
+                    line,
+                    ..
+                },
+                rest,
+            ),
+        ) => {
             let name = Name::new(alloc, name.bytes())?;
             Ok((Identifier { name, line: *line }, rest))
         }
@@ -325,10 +345,12 @@ pub fn at_name(t: &[Token]) -> bool
     ensures { result ≡ member (look t.now) (1 ∷ []) }
 {
     match t.first() {
-        Some(Token {
-            kind: TokenKind::Name(_),
-            ..
-        }) => true,
+        Some(
+            Token {
+                kind: TokenKind::Name(_),
+                ..
+            },
+        ) => true,
         _ => false,
     }
 }

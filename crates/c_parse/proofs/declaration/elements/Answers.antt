@@ -1,4 +1,4 @@
-use Rattle.std.proofs.Common.{ℕ, ◌≡◌, refl, sym, ◌∙◌, ap, length, [], ◌∷◌, ◌++◌, true, false, Some, None}
+use Rattle.std.proofs.Common.{refl, sym, ◌∙◌, ap, length, [], ◌∷◌, ◌++◌, true, false, Some, None}
 use Rattle.std.proofs.lemmas.Result.{err_from_is_err_and}
 use Rattle.c_tree.specs.declared.token.Punct.TheVariants as p
 use Rattle.c_parse.specs.Classes.{punct}

@@ -1,4 +1,4 @@
-use Rattle.std.proofs.Common.{ℕ, ◌≡◌, length, [], ◌∷◌}
+use Rattle.std.proofs.Common.{◌≡◌, length, [], ◌∷◌}
 use Rattle.c_tree.specs.declared.token.Punct.TheVariants as p
 use Rattle.c_parse.specs.Classes.{punct}
 use Rattle.c_parse.specs.Trees as trees

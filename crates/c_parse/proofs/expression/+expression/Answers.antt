@@ -1,4 +1,4 @@
-use Rattle.std.proofs.Common.{ℕ, suc, ◌≡◌, ◌≤◌, refl, sym, ◌∙◌, ap, ap₂, arith, true, false, length, [], ◌∷◌, ◌++◌, subst, max}
+use Rattle.std.proofs.Common.{ℕ, ◌≤◌, refl, sym, ◌∙◌, ap, ap₂, arith, length, [], ◌∷◌, ◌++◌, subst}
 use Rattle.std.proofs.lemmas.Result.{err_from_is_err_and}
 use Rattle.c_tree.specs.declared.token.Punct.TheVariants as p
 use Rattle.c_parse.specs.Classes.{punct, classes}
@@ -184,12 +184,14 @@ pub assignment-assign-requires-clause-value : goal.assignment-assign-requires-cl
 assignment-assign-requires-clause-value t c = let h = c.in_ok-value.ensures.bounded in omega (arith, h, c.ranges.depth.fits)
 
 pub assignment-returns : goal.assignment-returns
-assignment-returns t c = record { gives =
-    sym (assignment_begins c.args.depth c.args.t.now (c.in_ok-left.left.expr, c.in_ok-left.left.height) c.in_ok-left.rest.now c.in_ok-left.ensures.gives)
-    ∙ row_step readers.is_unary (readers.fits c.args.depth) (classes ranks.assignment_operators) trees.assign (read_both (read_among ranks.assignment_operators) (parts.whole c.args.depth ranks.Assignment)) refl (assignment_less c.args.depth) (c.in_ok-left.left.expr, c.in_ok-left.left.height) ((c.in-Some.op, c.in-Some.field-0-1), (c.in_ok-value.value.expr, c.in_ok-value.value.height)) c.in_ok-left.rest.now c.in_ok-value.rest.now (sym c.is_unary.ensures ∙ c.if-not-is_unary.false) c.in-Some.ensures.0 (sym c.fits.ensures.exact ∙ c.if-not-fits.false)
-    (paired (read_among ranks.assignment_operators) (parts.whole c.args.depth ranks.Assignment) c.in_ok-left.rest.now c.in-Some.next.now (c.in-Some.op, c.in-Some.field-0-1) (c.in_ok-value.value.expr, c.in_ok-value.value.height) c.in_ok-value.rest.now c.in-Some.ensures.1 c.in_ok-value.ensures.gives)
-    ∙ ap (λ z. read_rest readers.is_unary (readers.fits c.args.depth) (classes ranks.assignment_operators) trees.assign (read_both (read_among ranks.assignment_operators) (parts.whole c.args.depth ranks.Assignment)) (length c.in_ok-value.rest.now) z c.in_ok-value.rest.now) (sym c.in_ok-assign.ensures)
-    ∙ row_stays readers.is_unary (readers.fits c.args.depth) (classes ranks.assignment_operators) trees.assign (read_both (read_among ranks.assignment_operators) (parts.whole c.args.depth ranks.Assignment)) refl (c.in_ok-assign.field-0.expr, c.in_ok-assign.field-0.height) c.in_ok-value.rest.now (ap readers.is_unary c.in_ok-assign.ensures ∙ unary_node _ 0) }
+assignment-returns t c = record {
+  gives =
+      sym (assignment_begins c.args.depth c.args.t.now (c.in_ok-left.left.expr, c.in_ok-left.left.height) c.in_ok-left.rest.now c.in_ok-left.ensures.gives)
+      ∙ row_step readers.is_unary (readers.fits c.args.depth) (classes ranks.assignment_operators) trees.assign (read_both (read_among ranks.assignment_operators) (parts.whole c.args.depth ranks.Assignment)) refl (assignment_less c.args.depth) (c.in_ok-left.left.expr, c.in_ok-left.left.height) ((c.in-Some.op, c.in-Some.field-0-1), (c.in_ok-value.value.expr, c.in_ok-value.value.height)) c.in_ok-left.rest.now c.in_ok-value.rest.now (sym c.is_unary.ensures ∙ c.if-not-is_unary.false) c.in-Some.ensures.0 (sym c.fits.ensures.exact ∙ c.if-not-fits.false)
+      (paired (read_among ranks.assignment_operators) (parts.whole c.args.depth ranks.Assignment) c.in_ok-left.rest.now c.in-Some.next.now (c.in-Some.op, c.in-Some.field-0-1) (c.in_ok-value.value.expr, c.in_ok-value.value.height) c.in_ok-value.rest.now c.in-Some.ensures.1 c.in_ok-value.ensures.gives)
+      ∙ ap (λ z. read_rest readers.is_unary (readers.fits c.args.depth) (classes ranks.assignment_operators) trees.assign (read_both (read_among ranks.assignment_operators) (parts.whole c.args.depth ranks.Assignment)) (length c.in_ok-value.rest.now) z c.in_ok-value.rest.now) (sym c.in_ok-assign.ensures)
+      ∙ row_stays readers.is_unary (readers.fits c.args.depth) (classes ranks.assignment_operators) trees.assign (read_both (read_among ranks.assignment_operators) (parts.whole c.args.depth ranks.Assignment)) refl (c.in_ok-assign.field-0.expr, c.in_ok-assign.field-0.height) c.in_ok-value.rest.now (ap readers.is_unary c.in_ok-assign.ensures ∙ unary_node _ 0);
+}
 
 pub expression-returns-then-starts_expression-clause-gives : goal.expression-returns-then-starts_expression-clause-gives
 expression-returns-then-starts_expression-clause-gives t c = rw c.if-depth-eq0.true (nothing_deep (rank_of c.args.rank) c.args.t.now (sym c.starts_expression.ensures ∙ c.if-starts_expression.true))
@@ -204,11 +206,12 @@ pub tighter-returns-in-Some : goal.tighter-returns-in-Some
 tighter-returns-in-Some t c = record { gives = rw (below_some c.args.depth c.args.q c.in-Some.r c.args.t.now (sym c.tighter.ensures ∙ c.in-Some.is)) c.binary.ensures.gives }
 
 pub unary-row-preserved : goal.unary-row-preserved
-unary-row-preserved t c =
-    (ap readers.is_postfix c.in_ok-left-2.ensures ∙ postfix_node _ 0,
-    ap (λ z. read_rest readers.is_postfix (readers.fits c.args.depth) (classes ranks.steps) trees.postfix (read_among ranks.steps) (length c.in-Some.next.now) z c.in-Some.next.now) c.in_ok-left-2.ensures
-    ∙ sym (row_step readers.is_postfix (readers.fits c.args.depth) (classes ranks.steps) trees.postfix (read_among ranks.steps) refl (picked_shrinks _) (c.row.left.expr, c.row.left.height) (c.in-Some.step, c.in-Some.field-0-1) c.row.rest.now c.in-Some.next.now c.row.invariant.0 c.in-Some.ensures.0 (sym c.fits.ensures.exact ∙ c.if-not-fits.false) c.in-Some.ensures.1)
-    ∙ c.row.invariant.1)
+unary-row-preserved t c = (
+  ap readers.is_postfix c.in_ok-left-2.ensures ∙ postfix_node _ 0,
+  ap (λ z. read_rest readers.is_postfix (readers.fits c.args.depth) (classes ranks.steps) trees.postfix (read_among ranks.steps) (length c.in-Some.next.now) z c.in-Some.next.now) c.in_ok-left-2.ensures
+      ∙ sym (row_step readers.is_postfix (readers.fits c.args.depth) (classes ranks.steps) trees.postfix (read_among ranks.steps) refl (picked_shrinks _) (c.row.left.expr, c.row.left.height) (c.in-Some.step, c.in-Some.field-0-1) c.row.rest.now c.in-Some.next.now c.row.invariant.0 c.in-Some.ensures.0 (sym c.fits.ensures.exact ∙ c.if-not-fits.false) c.in-Some.ensures.1)
+      ∙ c.row.invariant.1,
+)
 
 pub unary-row-init : goal.unary-row-init
 unary-row-init t c = (sym c.is_postfix.ensures ∙ c.if-not-is_postfix.false, unary_begins c.args.depth c.args.casts c.args.t.now (c.in_ok-left.left.expr, c.in_ok-left.left.height) c.in_ok-left.rest.now c.in_ok-left.ensures.gives)
@@ -250,13 +253,15 @@ conditional-returns-in_err-no t c =
     record { gives = rw (u.1, u.2, sym (conditional_begins c.args.depth c.args.t.now (c.in_ok-left.left.expr, c.in_ok-left.left.height) c.in_ok-left.rest.now c.in_ok-left.ensures.gives)) (row_fails readers.is_condition (readers.fits c.args.depth) (punct p.Question ∷ []) trees.conditional (read_both (read_lead (punct p.Question) (parts.whole c.args.depth ranks.Comma)) (read_lead (punct p.Colon) (parts.whole c.args.depth ranks.Conditional))) refl (c.in_ok-left.left.expr, c.in_ok-left.left.height) c.in_ok-left.rest.now c.in_err-no.field-0.0 (or_is_condition c.args.depth c.args.t.now (c.in_ok-left.left.expr, c.in_ok-left.left.height) c.in_ok-left.rest.now c.in_ok-left.ensures.gives) c.in-Some.ensures.0 (sym c.fits.ensures.exact ∙ c.if-not-fits.false) (pair_fails (read_lead (punct p.Question) (parts.whole c.args.depth ranks.Comma)) (read_lead (punct p.Colon) (parts.whole c.args.depth ranks.Conditional)) c.in_ok-left.rest.now c.in_ok-yes.rest.now (c.in_ok-yes.yes.expr, c.in_ok-yes.yes.height) c.in_err-no.field-0.0 (led (punct p.Question) (parts.whole c.args.depth ranks.Comma) c.in_ok-left.rest.now c.in-Some.next.now c.in-Some.field-0-0 (c.in_ok-yes.yes.expr, c.in_ok-yes.yes.height) c.in_ok-yes.rest.now c.in-Some.ensures.1 c.in_ok-yes.ensures.gives) (lead_fails (punct p.Colon) (parts.whole c.args.depth ranks.Conditional) c.in_ok-yes.rest.now c.in_ok-rest.rest.now c.in_ok-rest.field-0-0 c.in_err-no.field-0.0 c.in_ok-rest.ensures c.in_err-no.ensures.gives))) }
 
 pub conditional-returns : goal.conditional-returns
-conditional-returns t c = record { gives =
-    sym (conditional_begins c.args.depth c.args.t.now (c.in_ok-left.left.expr, c.in_ok-left.left.height) c.in_ok-left.rest.now c.in_ok-left.ensures.gives)
-    ∙ row_step readers.is_condition (readers.fits c.args.depth) (punct p.Question ∷ []) trees.conditional (read_both (read_lead (punct p.Question) (parts.whole c.args.depth ranks.Comma)) (read_lead (punct p.Colon) (parts.whole c.args.depth ranks.Conditional))) refl (conditional_less c.args.depth) (c.in_ok-left.left.expr, c.in_ok-left.left.height) ((c.in_ok-yes.yes.expr, c.in_ok-yes.yes.height), (c.in_ok-no.no.expr, c.in_ok-no.no.height)) c.in_ok-left.rest.now c.in_ok-no.rest.now (or_is_condition c.args.depth c.args.t.now (c.in_ok-left.left.expr, c.in_ok-left.left.height) c.in_ok-left.rest.now c.in_ok-left.ensures.gives) c.in-Some.ensures.0 (sym c.fits.ensures.exact ∙ c.if-not-fits.false)
-    (paired (read_lead (punct p.Question) (parts.whole c.args.depth ranks.Comma)) (read_lead (punct p.Colon) (parts.whole c.args.depth ranks.Conditional)) c.in_ok-left.rest.now c.in_ok-yes.rest.now (c.in_ok-yes.yes.expr, c.in_ok-yes.yes.height) (c.in_ok-no.no.expr, c.in_ok-no.no.height) c.in_ok-no.rest.now (led (punct p.Question) (parts.whole c.args.depth ranks.Comma) c.in_ok-left.rest.now c.in-Some.next.now c.in-Some.field-0-0 (c.in_ok-yes.yes.expr, c.in_ok-yes.yes.height) c.in_ok-yes.rest.now c.in-Some.ensures.1 c.in_ok-yes.ensures.gives)
-    (led (punct p.Colon) (parts.whole c.args.depth ranks.Conditional) c.in_ok-yes.rest.now c.in_ok-rest.rest.now c.in_ok-rest.field-0-0 (c.in_ok-no.no.expr, c.in_ok-no.no.height) c.in_ok-no.rest.now c.in_ok-rest.ensures c.in_ok-no.ensures.gives))
-    ∙ ap (λ z. read_rest readers.is_condition (readers.fits c.args.depth) (punct p.Question ∷ []) trees.conditional (read_both (read_lead (punct p.Question) (parts.whole c.args.depth ranks.Comma)) (read_lead (punct p.Colon) (parts.whole c.args.depth ranks.Conditional))) (length c.in_ok-no.rest.now) z c.in_ok-no.rest.now) (sym c.in_ok-conditional.ensures)
-    ∙ row_stays readers.is_condition (readers.fits c.args.depth) (punct p.Question ∷ []) trees.conditional (read_both (read_lead (punct p.Question) (parts.whole c.args.depth ranks.Comma)) (read_lead (punct p.Colon) (parts.whole c.args.depth ranks.Conditional))) refl (c.in_ok-conditional.field-0.expr, c.in_ok-conditional.field-0.height) c.in_ok-no.rest.now (ap readers.is_condition c.in_ok-conditional.ensures ∙ condition_node _ 0) }
+conditional-returns t c = record {
+  gives =
+      sym (conditional_begins c.args.depth c.args.t.now (c.in_ok-left.left.expr, c.in_ok-left.left.height) c.in_ok-left.rest.now c.in_ok-left.ensures.gives)
+      ∙ row_step readers.is_condition (readers.fits c.args.depth) (punct p.Question ∷ []) trees.conditional (read_both (read_lead (punct p.Question) (parts.whole c.args.depth ranks.Comma)) (read_lead (punct p.Colon) (parts.whole c.args.depth ranks.Conditional))) refl (conditional_less c.args.depth) (c.in_ok-left.left.expr, c.in_ok-left.left.height) ((c.in_ok-yes.yes.expr, c.in_ok-yes.yes.height), (c.in_ok-no.no.expr, c.in_ok-no.no.height)) c.in_ok-left.rest.now c.in_ok-no.rest.now (or_is_condition c.args.depth c.args.t.now (c.in_ok-left.left.expr, c.in_ok-left.left.height) c.in_ok-left.rest.now c.in_ok-left.ensures.gives) c.in-Some.ensures.0 (sym c.fits.ensures.exact ∙ c.if-not-fits.false)
+      (paired (read_lead (punct p.Question) (parts.whole c.args.depth ranks.Comma)) (read_lead (punct p.Colon) (parts.whole c.args.depth ranks.Conditional)) c.in_ok-left.rest.now c.in_ok-yes.rest.now (c.in_ok-yes.yes.expr, c.in_ok-yes.yes.height) (c.in_ok-no.no.expr, c.in_ok-no.no.height) c.in_ok-no.rest.now (led (punct p.Question) (parts.whole c.args.depth ranks.Comma) c.in_ok-left.rest.now c.in-Some.next.now c.in-Some.field-0-0 (c.in_ok-yes.yes.expr, c.in_ok-yes.yes.height) c.in_ok-yes.rest.now c.in-Some.ensures.1 c.in_ok-yes.ensures.gives)
+      (led (punct p.Colon) (parts.whole c.args.depth ranks.Conditional) c.in_ok-yes.rest.now c.in_ok-rest.rest.now c.in_ok-rest.field-0-0 (c.in_ok-no.no.expr, c.in_ok-no.no.height) c.in_ok-no.rest.now c.in_ok-rest.ensures c.in_ok-no.ensures.gives))
+      ∙ ap (λ z. read_rest readers.is_condition (readers.fits c.args.depth) (punct p.Question ∷ []) trees.conditional (read_both (read_lead (punct p.Question) (parts.whole c.args.depth ranks.Comma)) (read_lead (punct p.Colon) (parts.whole c.args.depth ranks.Conditional))) (length c.in_ok-no.rest.now) z c.in_ok-no.rest.now) (sym c.in_ok-conditional.ensures)
+      ∙ row_stays readers.is_condition (readers.fits c.args.depth) (punct p.Question ∷ []) trees.conditional (read_both (read_lead (punct p.Question) (parts.whole c.args.depth ranks.Comma)) (read_lead (punct p.Colon) (parts.whole c.args.depth ranks.Conditional))) refl (c.in_ok-conditional.field-0.expr, c.in_ok-conditional.field-0.height) c.in_ok-no.rest.now (ap readers.is_condition c.in_ok-conditional.ensures ∙ condition_node _ 0);
+}
 
 pub conditional-conditional-requires-clause-condition : goal.conditional-conditional-requires-clause-condition
 conditional-conditional-requires-clause-condition t c = let h = c.fits.ensures.low c.if-not-fits.false in omega (arith, h, c.ranges.depth.fits)

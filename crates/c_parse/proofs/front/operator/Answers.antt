@@ -1,4 +1,4 @@
-use Rattle.std.proofs.Common.{◌≡◌, ◌∙◌, ap, sym, refl, Some}
+use Rattle.std.proofs.Common.{◌∙◌, ap, sym}
 use Rattle.c_parse.specs.Classes.{kind_class, row_of}
 use Rattle.c_parse.specs.Expressions.{operators}
 use Rattle.c_parse.proofs.Words.{among_front}
