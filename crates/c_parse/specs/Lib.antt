@@ -1,0 +1,13 @@
+pub mod Classes
+pub mod Languages
+pub mod Trees
+pub mod Expressions
+pub mod Modules
+pub mod Promise
+pub mod Gives
+pub mod Ranks
+pub mod Parts
+pub mod ModuleParts
+pub mod Reading
+pub mod ExpressionReaders
+pub mod ModuleReaders
