@@ -1,12 +1,11 @@
 -- The text of a valid program is read as that program.
-use Rattle.std.proofs.Common.{◌≡◌, ◌≢◌, ℕ, ◌+◌, ◌^◌, ◌<◌, ◌≤◌, true, false, List, [], ◌∷◌, ◌++◌, Option, Some, None, length, map, refl, sym, ◌∙◌, ap, subst, append_assoc, length-append, arith, inl, inr}
+use Rattle.std.proofs.Common.{◌≡◌, ◌≢◌, ℕ, ◌+◌, ◌<◌, true, false, List, [], ◌∷◌, ◌++◌, Option, Some, None, length, map, refl, sym, ◌∙◌, ap, subst, append_assoc, length-append, arith, inl, inr}
 use Rattle.std.specs.Prelude.{flat_map, codes}
 use Rattle.std.specs.List.{AllByRecursion, list_any}
 use Rattle.std.proofs.lemmas.Bool.{cases_Bool, true≢false}
 use Rattle.std.proofs.lemmas.List.Sorted.{length_permutation}
 use Rattle.hlo_num.specs.Name.{IsName}
 use Rattle.il_core.specs.declared.shape.ShapeRow.{ShapeRow}
-use Rattle.il_core.specs.declared.shape.Shape.{Shape}
 use Rattle.il_core.specs.declared.shape.Shape.TheVariants as shape
 use Rattle.il_core.specs.declared.program.IlProgram.{IlProgram}
 use Rattle.il_core.specs.Limits.{IsPid, IsWithinLimits}
@@ -17,14 +16,12 @@ use Rattle.il_core.specs.Routine.{RoutineParts}
 use Rattle.il_core.specs.Text as text
 use Rattle.il_core.specs.Valid.{IsValid, IsProgram}
 use Rattle.il_check.specs.declared.flaw.Flaw.{Flaw}
-use Rattle.il_check.specs.Conditions.{conditions, first_broken}
 use Rattle.il_check.proofs.ValidRoutines.{tells_valid}
 use Rattle.il_text.specs.declared.fault.IlFault.{IlFault}
 use Rattle.il_text.specs.declared.fault.IlFault.TheVariants.{At, Memory}
 use Rattle.il_text.specs.declared.fault.IlKind.TheVariants as kind
 use Rattle.il_text.specs.declared.front.Front.{Front}
 use Rattle.il_text.specs.declared.front.Place.TheVariants.{Done}
-use Rattle.il_text.specs.declared.line.Line.{Line}
 use Rattle.il_text.specs.declared.line.Line.TheVariants as line
 use Rattle.il_text.specs.declared.line.NamedObject.{NamedObject}
 use Rattle.il_text.specs.declared.line.NamedRoutine.{NamedRoutine}
@@ -37,10 +34,10 @@ use Rattle.il_text.specs.Lines.{IsFitObject}
 use Rattle.il_text.specs.Order.{Item, object_item, object_items, routine_item, routine_items, first_misplaced}
 use Rattle.il_text.specs.ReadFaults.{IsOrderFault, IsCheckFault}
 use Rattle.il_text.specs.Texts.{lines_text}
-use Rattle.il_text.specs.Whole.{IsTyped, IsTextOf}
-use Rattle.il_text.proofs.Programs.{Rising, length_mapped}
+use Rattle.il_text.specs.Whole.{IsTextOf}
+use Rattle.il_text.proofs.Programs.{length_mapped}
 use Rattle.il_text.proofs.ProgramText.{text_append, routine_text}
-use Rattle.il_text.proofs.SameRows.{all_through, all_append, all_each, all_there, each_in, all_moved, rise_through, find, found_each, IsRowOf, row_told, same_rows}
+use Rattle.il_text.proofs.SameRows.{all_through, all_append, all_each, all_there, each_in, all_moved, rise_through, found_each, IsRowOf, row_told, same_rows}
 use Rattle.il_text.proofs.InOrder.{IsNamed, Differ, in_order}
 
 abbrev named_object : List ShapeRow → ObjectParts → NamedObject

@@ -19,8 +19,9 @@ use std::alloc::Global;
 use std::collections::BTreeSet;
 
 /// The valid program whose text the bytes are, or what is wrong first: lines are read first, then the order of
-/// PIDs and names is looked at, then each routine, then `main`. It takes memory in proportion to the bytes, and
-/// time in proportion to them and the logarithm of the program's names and PIDs.
+/// PIDs and names is looked at, then each routine, then `main`. On the text of a valid program it gives that
+/// program, or `Memory`. It takes memory in proportion to the bytes, and time in proportion to them and the
+/// logarithm of the program's names and PIDs.
 pub fn read_il(alloc: Global, b: &[u8]) -> Result<IlProgram, IlFault>
     ensures valid { IfOk result IsProgram }
     ensures text { IfOk result (λ p. b.now ≡ text.text p) }
