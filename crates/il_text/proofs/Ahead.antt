@@ -48,9 +48,9 @@ follows : (f front : Front) (rest bytes behind : List ℕ) → IsFitFront f → 
 follows f front rest bytes behind h a split plain = follows_at f front a.ahead rest bytes behind h a.lines a.text split plain
 
 -- the lines of a read line are those of the text
-pub each_step : (f g : Front) (line l : Line) (bytes : List ℕ) → IsFitFront f → IsFitLine line → words_of bytes ≡ line_words line → next f line ≡ Some g → IsFitLine l → bytes ≡ line_bytes l → (words_of bytes ≡ line_words l → Some line ≡ Some l)
+pub each_step : (f g : Front) (line l : Line) (bytes : List ℕ) → IsFitFront f → IsFitLine line → next f line ≡ Some g → IsFitLine l → bytes ≡ line_bytes l → (words_of bytes ≡ line_words l → Some line ≡ Some l)
     → front_lines g ≡ front_lines f ++ l ∷ []
-each_step f g line l bytes fits fit words told k is only =
+each_step f g line l bytes fits fit told k is only =
     let q = only (ap words_of is ∙ words_of_line l k) in
     let same : line ≡ l = cc q in
     (grow f line g fits fit told).lines ∙ ap (λ m. front_lines f ++ m ∷ []) same

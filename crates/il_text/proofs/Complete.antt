@@ -34,7 +34,7 @@ use Rattle.il_text.specs.Lines.{IsFitObject}
 use Rattle.il_text.specs.Order.{Item, object_item, object_items, routine_item, routine_items, first_misplaced}
 use Rattle.il_text.specs.ReadFaults.{IsOrderFault, IsCheckFault}
 use Rattle.il_text.specs.Texts.{lines_text}
-use Rattle.il_text.specs.Whole.{IsTextOf}
+use Rattle.il_text.specs.Whole.{IsTextOf, IsTyped}
 use Rattle.il_text.proofs.Programs.{length_mapped}
 use Rattle.il_text.proofs.ProgramText.{text_append, routine_text}
 use Rattle.il_text.proofs.SameRows.{all_through, all_append, all_each, all_there, each_in, all_moved, rise_through, found_each, IsRowOf, row_told, same_rows}
@@ -241,3 +241,19 @@ check_at p Memory h f = absurd f
 -- no fault in its routines
 pub check_memory : (p q : IlProgram) (g : Front) (e : IlFault) → IsProgram p → g ≡ front_of p → HasPartsOf g.objects g.routines q → IsCheckFault q e → e ≡ Memory
 check_memory p q g e h same made f = check_at p e h (subst (λ (x : IlProgram). IsCheckFault x e) (same_program p q g h same made) f)
+
+-- What its types hold.
+
+-- a program of parts within the limits of the language
+pub is_typed : (os : List NamedObject) (rs : List NamedRoutine) (p : IlProgram) → AllByRecursion IsFitObject os → AllByRecursion IsFitRoutine rs → HasPartsOf os rs p → IsTyped p
+is_typed os rs p a b h = record {
+  names = all_moved (λ row. IsName row.name) (all_rows os rs) p.shapes h.rows (all_append (λ row. IsName row.name) (map object_row os) (map routine_row rs)
+      (all_through object_row (λ row. IsName row.name) os (all_each IsFitObject (λ o. IsName o.name) os (λ o f. f.name) a))
+      (all_through routine_row (λ row. IsName row.name) rs (all_each IsFitRoutine (λ r. IsName r.name) rs (λ r f. f.name) b)));
+  numbers = record {
+    objects = subst (AllByRecursion IsObjectOfWords) (sym h.objects) (all_through (λ (o : NamedObject). o.object) IsObjectOfWords os (all_each IsFitObject (λ o. IsObjectOfWords o.object) os (λ o f. record { words = f.words; init = f.init }) a));
+    routines = subst (AllByRecursion IsRoutineOfWords) (sym h.routines) (all_through (λ (r : NamedRoutine). r.routine) IsRoutineOfWords rs (all_each IsFitRoutine (λ r. IsRoutineOfWords r.routine) rs (λ r f. f.range) b));
+  };
+  objects = subst (AllByRecursion (λ (o : ObjectParts). IsTrimmed o.words o.init)) (sym h.objects) (all_through (λ (o : NamedObject). o.object) (λ (o : ObjectParts). IsTrimmed o.words o.init) os (all_each IsFitObject (λ o. IsTrimmed o.object.words o.object.init) os (λ o f. f.trimmed) a));
+  routines = subst (AllByRecursion IsWithinLimits) (sym h.routines) (all_through (λ (r : NamedRoutine). r.routine) IsWithinLimits rs (all_each IsFitRoutine (λ r. IsWithinLimits r.routine) rs (λ r f. f.limits) b));
+}

@@ -3,7 +3,7 @@ use Rattle.std.proofs.lemmas.Result.{err_from_is_err_and}
 use Rattle.il_text.specs.declared.front.Place.{Place}
 use Rattle.il_text.specs.Fronts.{lines_of}
 use Rattle.il_text.specs.Texts.{lines_text}
-use Rattle.il_text.proofs.Complete.{front_of, whole_front, order_memory, check_memory, same_program}
+use Rattle.il_text.proofs.Complete.{front_of, whole_front, order_memory, check_memory, same_program, is_typed}
 use Rattle.il_text.proofs.Programs.{is_program, done_room}
 use Rattle.il_text.proofs.ProgramText.{program_text}
 use Rattle.il_text.proofs.read.read_il.Goals as goal
@@ -36,3 +36,6 @@ returns-in_err-check-clause-memory c = λ p h.
 
 pub returns-clause-each : goal.returns-clause-each
 returns-clause-each c = λ p h. same_program p c.in-Ok.program c.in_ok-objects.field-0 h.valid (c.in_ok-objects.ensures.each (front_of p) (whole_front c.args.b.now p h)) c.in-Ok.ensures
+
+pub returns-clause-typed : goal.returns-clause-typed
+returns-clause-typed c = let f = c.in_ok-objects.ensures.fit in is_typed c.in_ok-objects.field-0.objects c.in_ok-objects.field-0.routines c.in-Ok.program f.objects f.routines c.in-Ok.ensures
