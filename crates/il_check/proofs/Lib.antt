@@ -1,4 +1,4 @@
 mod FirstBroken
 mod MetConditions
 pub mod RisingRows
-mod ValidRoutines
+pub mod ValidRoutines

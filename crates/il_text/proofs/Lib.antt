@@ -13,6 +13,10 @@ mod FitLines
 pub mod LineSplits
 mod NextLines
 mod KnownItems
+mod Ahead
 mod Counts
 mod Programs
 mod ProgramText
+mod SameRows
+mod InOrder
+mod Complete

@@ -55,7 +55,7 @@ text_goes_on f g b rest bytes behind n e split =
 pub number_goes_on : (f g : Front) (bytes : List ℕ) (n m : ℕ) → IsNextLine f bytes g → n ≡ line_number (length (front_lines f)) → m ≡ min (n + 1) (2 ^ 32 - 1) → m ≡ line_number (length (front_lines g))
 number_goes_on f g bytes n m h e is = let len : length (front_lines g) ≡ length (front_lines f) + 1 = ap length h.lines ∙ length-append (front_lines f) (h.line ∷ []) in omega (arith, len, e, is)
 
-no_line_in : (bytes behind : List ℕ) → bytes ++ 10 ∷ behind ≡ [] → ⊥
+pub no_line_in : (bytes behind : List ℕ) → bytes ++ 10 ∷ behind ≡ [] → ⊥
 no_line_in [] behind e = absurd cc
 no_line_in (x ∷ bytes) behind e = absurd cc
 

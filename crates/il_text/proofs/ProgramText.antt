@@ -26,7 +26,7 @@ use Rattle.il_text.specs.Texts.{line_bytes, lines_text}
 use Rattle.il_text.proofs.Programs.{Rising, row_found, object_rows_in, routine_rows_in}
 use Rattle.il_text.proofs.StatementForms.{by_parts}
 
-text_append : (ls ms : List Line) → lines_text (ls ++ ms) ≡ lines_text ls ++ lines_text ms
+pub text_append : (ls ms : List Line) → lines_text (ls ++ ms) ≡ lines_text ls ++ lines_text ms
 text_append ls ms = flat_map-append (λ l. line_bytes l ++ 10 ∷ []) ls ms
 
 abbrev bytes_of : List (List ℕ) → List ℕ
@@ -55,7 +55,7 @@ blocks_text : (b : ℕ) (xs : List Block) → lines_text (blocks_lines b xs) ≡
 blocks_text b [] = refl
 blocks_text b (x ∷ xs) = text_append (block_lines b x) (blocks_lines (b + 1) xs) ∙ ap (λ bs. bs ++ lines_text (blocks_lines (b + 1) xs)) (block_text b x) ∙ ap (λ bs. text.block_text b x ++ bs) (blocks_text (b + 1) xs)
 
-routine_text : (r : NamedRoutine) → lines_text (routine_lines r) ≡ text.routine_text r.name r.routine
+pub routine_text : (r : NamedRoutine) → lines_text (routine_lines r) ≡ text.routine_text r.name r.routine
 routine_text r =
     text_append (open_lines r) (line.Close ∷ [])
     ∙ ap (λ bs. bs ++ text.line (codes "end" ∷ [])) (ap (λ bs. text.line (text.routine_parts r.name r.routine) ++ bs) (blocks_text 0 r.routine.blocks))

@@ -30,7 +30,7 @@ use Rattle.il_text.specs.Lines.{IsFitObject}
 use Rattle.il_text.specs.Order.{Item, object_items, routine_items, has_pid, has_name, first_misplaced}
 use Rattle.il_text.proofs.Counts.{placed_head, object_part, rows_names_once, each_moved, same_bytes}
 
-contains_head : (x : ShapeRow) (xs : List ShapeRow) → Contains (x ∷ xs) x
+pub contains_head : (x : ShapeRow) (xs : List ShapeRow) → Contains (x ∷ xs) x
 contains_head x xs = (0, omega arith, refl)
 
 -- each of a list has its row among these
@@ -59,7 +59,7 @@ routine_shapes : (rows : List ShapeRow) (rs : List NamedRoutine) → Rising rows
 routine_shapes rows [] h k = tt
 routine_shapes rows (r ∷ rs) h k = (ap shape_of_row (row_found rows (routine_row r) h k.0), routine_shapes rows rs h k.1)
 
-length_mapped : {X Y : Type 0} (f : X → Y) (xs : List X) → length (map f xs) ≡ length xs
+pub length_mapped : {X Y : Type 0} (f : X → Y) (xs : List X) → length (map f xs) ≡ length xs
 length_mapped f [] = refl
 length_mapped f (x ∷ xs) = ap suc (length_mapped f xs)
 

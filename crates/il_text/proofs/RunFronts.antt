@@ -30,7 +30,7 @@ abbrev pub run : Option Front → List Line → Option Front
 run o [] = o
 run o (l ∷ ls) = run (and_next o l) ls
 
-run_append : (o : Option Front) (xs ys : List Line) → run o (xs ++ ys) ≡ run (run o xs) ys
+pub run_append : (o : Option Front) (xs ys : List Line) → run o (xs ++ ys) ≡ run (run o xs) ys
 run_append o [] ys = refl
 run_append o (x ∷ xs) ys = run_append (and_next o x) xs ys
 

@@ -32,6 +32,12 @@ IsNoNextLine f bytes n (At m (kind.Invalid flaw)) = ⊥
 IsNoNextLine f bytes n (At m kind.NoMain) = ⊥
 IsNoNextLine f bytes n Memory = ⊤
 
+-- the text is that of this front, which ends with its last line
+pub record IsWhole (b : List ℕ) (f : Front) : Type 0 where
+  pub fit : IsFitFront f
+  pub done : f.place ≡ place.Done
+  pub text : b ≡ lines_text (front_lines f)
+
 -- The lines before are the front of a text within the limits of the language, and no such front goes on with the next line:
 -- what follows has no whole line, or its line is no next one. And the text doesn't end there.
 pub record IsFirstBadLine (b : List ℕ) (n : ℕ) : Type 0 where

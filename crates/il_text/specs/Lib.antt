@@ -17,3 +17,4 @@ pub mod Known
 pub mod Assembled
 pub mod Checked
 pub mod ReadFaults
+pub mod Whole

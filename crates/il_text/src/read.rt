@@ -5,6 +5,7 @@ ghost use Rattle.il_core.specs.Valid.{IsProgram};
 ghost use Rattle.il_text.specs.Assembled.{first_out_of_order};
 ghost use Rattle.il_text.specs.Checked.{line_count};
 ghost use Rattle.il_text.specs.ReadFaults.{IsFaultOf, IsOrderFault, IsCheckFault, IsFine, capped};
+ghost use Rattle.il_text.specs.Whole.{IsTextOf, IsTyped};
 
 use crate::check::{first_flaw, has_main, line_count};
 use crate::fault::{IlFault, IlKind};
@@ -18,12 +19,16 @@ use std::alloc::Global;
 use std::collections::BTreeSet;
 
 /// The valid program whose text the bytes are, or what is wrong first: lines are read first, then the order of
-/// PIDs and names is looked at, then each routine, then `main`. It takes memory in proportion to the bytes, and
-/// time in proportion to them and the logarithm of the program's names and PIDs.
+/// PIDs and names is looked at, then each routine, then `main`. On the text of a valid program it gives that
+/// program, or `Memory`. It takes memory in proportion to the bytes, and time in proportion to them and the
+/// logarithm of the program's names and PIDs.
 pub fn read_il(alloc: Global, b: &[u8]) -> Result<IlProgram, IlFault>
     ensures valid { IfOk result IsProgram }
     ensures text { IfOk result (λ p. b.now ≡ text.text p) }
     ensures fault { IfErr result (λ e. IsFaultOf b.now e) }
+    ensures typed { IfOk result IsTyped }
+    ensures each { (p : IlProgram) → IsTextOf b.now p → IfOk result (λ q. q ≡ p) }
+    ensures memory { (p : IlProgram) → IsTextOf b.now p → IfErr result (λ e. e ≡ IlFault.Memory) }
 {
     let Front {
         objects,

@@ -1,9 +1,11 @@
 //! Reading the lines of a text.
-ghost use Rattle.std.specs.Prelude.{◌≡◌, IfOk, IfErr, true, false};
-ghost use Rattle.il_text.specs.Faults.{IsLineFault, IsNextLine, IsNoNextLine};
+ghost use Rattle.std.specs.Prelude.{◌≡◌, [], ◌∷◌, ◌++◌, IfOk, IfErr, true, false};
+ghost use Rattle.il_text.specs.Faults.{IsLineFault, IsNextLine, IsNoNextLine, IsWhole};
 ghost use Rattle.il_text.specs.FitFronts.{IsFitFront};
 ghost use Rattle.il_text.specs.Fronts.{front_lines};
-ghost use Rattle.il_text.specs.Texts.{lines_text};
+ghost use Rattle.il_text.specs.Lines.{IsFitLine};
+ghost use Rattle.il_text.specs.Texts.{line_bytes, lines_text};
+ghost use Rattle.il_text.specs.declared.line.Line.{Line};
 ghost use Rattle.il_text.specs.declared.front.Front.{Front};
 
 use crate::fault::{IlFault, IlKind};
@@ -20,6 +22,8 @@ pub(crate) fn read_lines(alloc: Global, b: &[u8]) -> Result<Front, IlFault>
     ensures done { IfOk result (λ f. f.place ≡ Place.Done) }
     ensures text { IfOk result (λ f. b.now ≡ lines_text (front_lines f)) }
     ensures fault { IfErr result (λ e. IsLineFault b.now e) }
+    ensures each { (f : Front) → IsWhole b.now f → IfOk result (λ g. g ≡ f) }
+    ensures memory { (f : Front) → IsWhole b.now f → IfErr result (λ e. e ≡ IlFault.Memory) }
 {
     let mut front = Front {
         objects: Seq::new(alloc),
@@ -56,6 +60,7 @@ fn read_on(alloc: Global, front: Front, bytes: &[u8], number: u32) -> Result<Fro
     requires { IsFitFront front }
     ensures next { IfOk result (λ g. IsNextLine front bytes.now g) }
     ensures fault { IfErr result (λ e. IsNoNextLine front bytes.now number e) }
+    ensures each { (l : Line) → IsFitLine l → bytes.now ≡ line_bytes l → IfOk result (λ g. front_lines g ≡ front_lines front ++ l ∷ []) }
 {
     let fault = IlFault::At {
         line: number,
