@@ -18,6 +18,7 @@ pub mod OneRound
 pub mod Places
 pub mod Placing
 pub mod Running
+pub mod Samples
 pub mod Starting
 pub mod Steps
 pub mod Streaming
