@@ -5,4 +5,5 @@ pub mod Operators
 pub mod Results
 pub mod Statements
 pub mod Trees
+pub mod Types
 pub mod Views
