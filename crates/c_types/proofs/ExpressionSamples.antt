@@ -84,6 +84,16 @@ signs = function_of 0 (Some Int) [] [] (block (Expression (PutChar (Binary Int o
 signs_run : run_functions signs only_main [] 0 ≡ seen (codes "BABB") (exits 4294966995)
 signs_run = refl
 
+-- int and long are signed, and so are the narrow types; the unsigned kinds of int and long are not
+--     int main(void) { char a; unsigned char b; short c; unsigned short d; a = b = c = d = -1; return (a < 0) + (b
+--     < 0) * 2 + (c < 0) * 4 + (d < 0) * 8 + (-1 < 0) * 16 + (-1L < 0L) * 32 + (-1u < 0u) * 64 + (-1ul < 0ul) *
+--     128; }
+abbrev signed_types : List Function
+signed_types = function_of 0 (Some Int) [] (local_of Char None (codes "a") ∷ local_of UChar None (codes "b") ∷ local_of Short None (codes "c") ∷ local_of UShort None (codes "d") ∷ []) (block (Declaration 0 None ∷ Declaration 1 None ∷ Declaration 2 None ∷ Declaration 3 None ∷ Expression (Assign Char (local 0) (Convert Char (Assign UChar (local 1) (Convert UChar (Assign Short (local 2) (Convert Short (Assign UShort (local 3) (Convert UShort (Unary Int Minus (int 1)))))))))) ∷ Return (Some (Binary Int op.Add (Binary Int op.Add (Binary Int op.Add (Binary Int op.Add (Binary Int op.Add (Binary Int op.Add (Binary Int op.Add (Binary Int op.Less (Convert Int (Read Char (local 0))) (int 0)) (Binary Int op.Multiply (Binary Int op.Less (Convert Int (Read UChar (local 1))) (int 0)) (int 2))) (Binary Int op.Multiply (Binary Int op.Less (Convert Int (Read Short (local 2))) (int 0)) (int 4))) (Binary Int op.Multiply (Binary Int op.Less (Convert Int (Read UShort (local 3))) (int 0)) (int 8))) (Binary Int op.Multiply (Binary Int op.Less (Unary Int Minus (int 1)) (int 0)) (int 16))) (Binary Int op.Multiply (Binary Long op.Less (Unary Long Minus (Constant Long 1)) (Constant Long 0)) (int 32))) (Binary Int op.Multiply (Binary UInt op.Less (Unary UInt Minus (Constant UInt 1)) (Constant UInt 0)) (int 64))) (Binary Int op.Multiply (Binary ULong op.Less (Unary ULong Minus (Constant ULong 1)) (Constant ULong 0)) (int 128)))) ∷ [])) ∷ []
+
+signed_types_run : run_functions signed_types only_main [] 0 ≡ seen [] (exits 53)
+signed_types_run = refl
+
 -- each comparison, on 1 and 2 and the other way round
 --     int main(void) { int a; int b; a = 1; b = 2; return (a > b) + 2 * (a >= b) + 4 * (b > a) + 8 * (a <= b) + 16
 --     * (a == b) + 32 * (a != b) + 64 * (b >= b) + 128 * (a < b); }
@@ -110,13 +120,25 @@ unaries_run : run_functions unaries only_main [] 0 ≡ seen [] (exits 157)
 unaries_run = refl
 
 -- the right operand is skipped where the left one decides
---     int main(void) { putchar(65 + (0 && putchar(97))); putchar(65 + (1 || putchar(98))); putchar(65 + (2 &&
+--     int main(void) { putchar(65 + (0 && putchar(97))); putchar(65 + (2 || putchar(98))); putchar(65 + (2 &&
 --     putchar(99))); putchar(65 + (0 || putchar(100))); return (0 || 0) + (3 && 0); }
 abbrev skips : List Function
-skips = function_of 0 (Some Int) [] [] (block (Expression (PutChar (Binary Int op.Add (int 65) (Logical logical.And (int 0) (PutChar (int 97))))) ∷ Expression (PutChar (Binary Int op.Add (int 65) (Logical logical.Or (int 1) (PutChar (int 98))))) ∷ Expression (PutChar (Binary Int op.Add (int 65) (Logical logical.And (int 2) (PutChar (int 99))))) ∷ Expression (PutChar (Binary Int op.Add (int 65) (Logical logical.Or (int 0) (PutChar (int 100))))) ∷ Return (Some (Binary Int op.Add (Logical logical.Or (int 0) (int 0)) (Logical logical.And (int 3) (int 0)))) ∷ [])) ∷ []
+skips = function_of 0 (Some Int) [] [] (block (Expression (PutChar (Binary Int op.Add (int 65) (Logical logical.And (int 0) (PutChar (int 97))))) ∷ Expression (PutChar (Binary Int op.Add (int 65) (Logical logical.Or (int 2) (PutChar (int 98))))) ∷ Expression (PutChar (Binary Int op.Add (int 65) (Logical logical.And (int 2) (PutChar (int 99))))) ∷ Expression (PutChar (Binary Int op.Add (int 65) (Logical logical.Or (int 0) (PutChar (int 100))))) ∷ Return (Some (Binary Int op.Add (Logical logical.Or (int 0) (int 0)) (Logical logical.And (int 3) (int 0)))) ∷ [])) ∷ []
 
 skips_run : run_functions skips only_main [] 0 ≡ seen (codes "ABcBdB") (exits 0)
 skips_run = refl
+
+-- arguments from left to right, each converted to the type of its parameter
+--     int f(char a, int b) { return a * 1000 + b; }
+--     int main(void) { return f(putchar(321) + 256, putchar(66)); }
+abbrev arguments : List Function
+arguments = function_of 0 (Some Int) (param_of Char (codes "a") ∷ param_of Int (codes "b") ∷ []) [] (block (Return (Some (Binary Int op.Add (Binary Int op.Multiply (Convert Int (Read Char (param 0))) (int 1000)) (Read Int (param 1)))) ∷ [])) ∷ function_of 1 (Some Int) [] [] (block (Return (Some (Call (Some Int) 0 (arguments_from (Convert Char (Binary Int op.Add (PutChar (int 321)) (int 256)) ∷ PutChar (int 66) ∷ [])))) ∷ [])) ∷ []
+
+abbrev arguments_names : Table
+arguments_names = (row (codes "f") (function (Some Int) (Char ∷ Int ∷ [])) Defined [] ∷ row (codes "main") (function (Some Int) []) Defined [] ∷ [])
+
+arguments_run : run_functions arguments arguments_names [] 1 ≡ seen (codes "AB") (exits 65066)
+arguments_run = refl
 
 -- one arm of a conditional expression is evaluated; both may be void
 --     void f(int c) { putchar(c); }
@@ -219,6 +241,17 @@ writes_outside = function_of 0 (Some Int) [] (local_of Int (Some 3) (codes "a") 
 
 writes_outside_run : run_functions writes_outside only_main [] 0 ≡ seen (codes "AB") (Trapped Index)
 writes_outside_run = refl
+
+-- of an object at file scope too
+--     char b[2]; int main(void) { b[1] = 66; putchar(b[1]); b[2] = putchar(65); return 0; }
+abbrev writes_object_outside : List Function
+writes_object_outside = function_of 1 (Some Int) [] [] (block (Expression (Assign Char (element (arrays.Object 0) (int 1)) (Convert Char (int 66))) ∷ Expression (PutChar (Convert Int (Read Char (element (arrays.Object 0) (int 1))))) ∷ Expression (Assign Char (element (arrays.Object 0) (int 2)) (Convert Char (PutChar (int 65)))) ∷ Return (Some (int 0)) ∷ [])) ∷ []
+
+abbrev writes_object_outside_names : Table
+writes_object_outside_names = (row (codes "b") (array Char false (Some 2)) Tentative [] ∷ row (codes "main") (function (Some Int) []) Defined [] ∷ [])
+
+writes_object_outside_run : run_functions writes_object_outside writes_object_outside_names [] 0 ≡ seen (codes "BA") (Trapped Index)
+writes_object_outside_run = refl
 
 -- a compound assignment reads first
 --     int main(void) { int a[3]; a[2] += putchar(65); a[3] += putchar(66); return 0; }

@@ -1,19 +1,21 @@
 -- The meaning of linked modules at small programs. A comment has the modules in their order; the names stand in the
 -- table in the order of their first mention. What each program prints and how it ends is computed.
 use Rattle.std.proofs.Common.{◌≡◌, List, [], ◌∷◌, refl}
-use Rattle.std.specs.Prelude.{codes, map, false, Some}
+use Rattle.std.specs.Prelude.{codes, map, false, Some, None}
 use Rattle.hlo_num.specs.declared.word.Ty.TheVariants.{Char, Int}
 use Rattle.il_core.specs.World.{Exit as exits, OutOfTurns}
 use Rattle.c_tree.specs.declared.expression.Step.TheVariants.{Increment}
+use Rattle.c_tree.specs.declared.expression.UnaryOp.TheVariants.{Not}
 use Rattle.sym_tables.specs.declared.entity.Entity.TheVariants.{Function as function, Scalar as scalar, Array as array}
 use Rattle.sym_tables.specs.declared.symbol.Standing.TheVariants.{Tentative, Defined}
 use Rattle.sym_tables.specs.Table.{Table}
 use Rattle.c_types.specs.declared.expression.Array.TheVariants as arrays
 use Rattle.c_types.specs.declared.expression.BinaryOp.TheVariants as op
+use Rattle.c_types.specs.declared.statement.Label.TheVariants.{Default}
 use Rattle.c_types.specs.Linked.{run_functions}
-use Rattle.c_types.specs.Trees.{Function, Element as element, Read, Convert, Binary, Assign, Compound, Prefix, Postfix, Call, PutChar, None as none, Expression, Return}
+use Rattle.c_types.specs.Trees.{Function, Element as element, Read, Convert, Unary, Binary, Assign, Compound, Prefix, Postfix, Call, GetChar, PutChar, None as none, Declaration, Expression, If, IfElse, Switch, While, Return, End, Section}
 use Rattle.c_types.specs.Views.{arguments_from, sequence_from as block}
-use Rattle.c_types.proofs.Samples.{function_of, param_of, int, param, object, word, row, seen}
+use Rattle.c_types.proofs.Samples.{function_of, param_of, local_of, int, param, local, object, label, word, row, seen}
 
 -- a static function in each module: the name stands for the module's own
 --   module 1:
@@ -102,3 +104,46 @@ writes_last_names = (row (codes "a") (array Int false (Some 3)) Defined (map wor
 
 writes_last_run : run_functions writes_last writes_last_names [] 4 ≡ seen [] (exits 2120)
 writes_last_run = refl
+
+-- a counter of lines, words and bytes: three modules, with an object that one declares and another defines
+--   module 1:
+--     enum kind { OTHER, SPACE, LINE };
+--     extern int lines;
+--     int words_seen(void);
+--     void feed(enum kind k);
+--     void number(int n);
+--     static int bytes;
+--     static enum kind kind_of(int c) {
+--       switch (c) {
+--       case '\n': return LINE;
+--       case ' ': case '\t': return SPACE;
+--       default: return OTHER;
+--       }
+--     }
+--     int main(void) {
+--       int c;
+--       while ((c = getchar()) != EOF) { bytes++; feed(kind_of(c)); }
+--       number(lines); putchar(' '); number(words_seen()); putchar(' ');
+--       number(bytes); putchar('\n');
+--       return 0;
+--     }
+--   module 2:
+--     enum kind { OTHER, SPACE, LINE };
+--     int lines;
+--     static int words, inside;
+--     void feed(enum kind k) {
+--       if (k == LINE) lines++;
+--       if (k != OTHER) inside = 0;
+--       else if (!inside) { inside = 1; words++; }
+--     }
+--     int words_seen(void) { return words; }
+--   module 3:
+--     void number(int n) { if (n > 9) number(n / 10); putchar('0' + n % 10); }
+abbrev word_counter : List Function
+word_counter = function_of 5 (Some Int) (param_of Int (codes "c") ∷ []) [] (block (Switch (Read Int (param 0)) (Section (label 10 ∷ []) (Return (Some (int 2))) (Section (label 32 ∷ label 9 ∷ []) (Return (Some (int 1))) (Section (Default ∷ []) (Return (Some (int 0))) End))) ∷ [])) ∷ function_of 6 (Some Int) [] (local_of Int None (codes "c") ∷ []) (block (Declaration 0 None ∷ While (Binary Int op.NotEqual (Assign Int (local 0) GetChar) (int 4294967295)) (block (Expression (Postfix Int Increment (object 4)) ∷ Expression (Call None 2 (arguments_from (Call (Some Int) 5 (arguments_from (Read Int (local 0) ∷ [])) ∷ []))) ∷ [])) ∷ Expression (Call None 3 (arguments_from (Read Int (object 0) ∷ []))) ∷ Expression (PutChar (int 32)) ∷ Expression (Call None 3 (arguments_from (Call (Some Int) 1 none ∷ []))) ∷ Expression (PutChar (int 32)) ∷ Expression (Call None 3 (arguments_from (Read Int (object 4) ∷ []))) ∷ Expression (PutChar (int 10)) ∷ Return (Some (int 0)) ∷ [])) ∷ function_of 2 None (param_of Int (codes "k") ∷ []) [] (block (If (Binary Int op.Equal (Read Int (param 0)) (int 2)) (Expression (Postfix Int Increment (object 0))) ∷ IfElse (Binary Int op.NotEqual (Read Int (param 0)) (int 0)) (Expression (Assign Int (object 8) (int 0))) (If (Unary Int Not (Read Int (object 8))) (block (Expression (Assign Int (object 8) (int 1)) ∷ Expression (Postfix Int Increment (object 7)) ∷ []))) ∷ [])) ∷ function_of 1 (Some Int) [] [] (block (Return (Some (Read Int (object 7))) ∷ [])) ∷ function_of 3 None (param_of Int (codes "n") ∷ []) [] (block (If (Binary Int op.Greater (Read Int (param 0)) (int 9)) (Expression (Call None 3 (arguments_from (Binary Int op.Divide (Read Int (param 0)) (int 10) ∷ [])))) ∷ Expression (PutChar (Binary Int op.Add (int 48) (Binary Int op.Remainder (Read Int (param 0)) (int 10)))) ∷ [])) ∷ []
+
+abbrev word_counter_names : Table
+word_counter_names = (row (codes "lines") (scalar Int false) Tentative [] ∷ row (codes "words_seen") (function (Some Int) []) Defined [] ∷ row (codes "feed") (function None (Int ∷ [])) Defined [] ∷ row (codes "number") (function None (Int ∷ [])) Defined [] ∷ row (codes "bytes.1") (scalar Int false) Tentative [] ∷ row (codes "kind_of.1") (function (Some Int) (Int ∷ [])) Defined [] ∷ row (codes "main") (function (Some Int) []) Defined [] ∷ row (codes "words.2") (scalar Int false) Tentative [] ∷ row (codes "inside.2") (scalar Int false) Tentative [] ∷ [])
+
+word_counter_run : run_functions word_counter word_counter_names (97 ∷ 32 ∷ 98 ∷ 10 ∷ 99 ∷ 100 ∷ 10 ∷ []) 100 ≡ seen (50 ∷ 32 ∷ 51 ∷ 32 ∷ 55 ∷ 10 ∷ []) (exits 0)
+word_counter_run = refl

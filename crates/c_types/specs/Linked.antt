@@ -1,22 +1,24 @@
 -- The meaning of linked modules. An external name has one PID in all modules, and stands for its one definition; a
 -- static name has a PID of its own in each module, by its program name. So a program is the functions of all its modules
 -- and the table of its names, and each name in a tree stands for what its PID has.
-use Rattle.std.specs.Prelude.{ℕ, List, [], Option, Some, None, map, slice_index, codes}
+use Rattle.std.specs.Prelude.{ℕ, List, [], Option, Some, None, map, slice_index, codes, if◌then◌else◌}
 use Rattle.hlo_num.specs.declared.word.Word.{Word}
 use Rattle.il_core.specs.World.{World}
 use Rattle.il_core.specs.Meaning.{Run, run_of}
 use Rattle.sym_tables.specs.declared.symbol.Symbol.{Symbol}
 use Rattle.sym_tables.specs.Entities.{words}
+use Rattle.sym_tables.specs.Symbols.{is_declared}
 use Rattle.sym_tables.specs.Table.{Table, pid_of, symbol_at}
 use Rattle.c_types.specs.declared.function.TypedModule.{TypedModule}
 use Rattle.c_types.specs.Meaning.{Program, call_function}
 use Rattle.c_types.specs.Trees.{Function}
 use Rattle.c_types.specs.Views.{functions_of}
 
--- how many words what a PID stands for has; none where it is no object
+-- how many words the object of a PID has: one that is defined, or tentatively, in some module; none where the PID
+-- stands for no such object
 abbrev pub words_of : Option Symbol → ℕ
 words_of None = 0
-words_of (Some s) = words s.entity
+words_of (Some s) = if is_declared s.standing then 0 else words s.entity
 
 abbrev pub words_at : Table → ℕ → ℕ
 words_at syms pid = words_of (symbol_at syms pid)
@@ -24,7 +26,7 @@ words_at syms pid = words_of (symbol_at syms pid)
 -- an object begins with the constants of its definition, and then zeros
 abbrev pub word_at_start : Option Symbol → ℕ → ℕ
 word_at_start None i = 0
-word_at_start (Some s) i = slice_index (map (λ (w : Word). w.0) s.init) i
+word_at_start (Some s) i = if is_declared s.standing then 0 else slice_index (map (λ (w : Word). w.0) s.init) i
 
 abbrev pub words_at_start : Table → ℕ → ℕ → ℕ
 words_at_start syms pid i = word_at_start (symbol_at syms pid) i
