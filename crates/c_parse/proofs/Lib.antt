@@ -16,8 +16,11 @@ pub mod Levels
 pub mod Steps
 pub mod Rounds
 pub mod Sizes
+pub mod StatementSizes
 pub mod DeclarationRules
 pub mod StatementRules
 pub mod ModuleRules
 pub mod ItemRules
+pub mod ItemParts
 pub mod Whole
+pub mod Told

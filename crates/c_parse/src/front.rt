@@ -6,7 +6,7 @@ ghost use Rattle.c_parse.specs.Expressions.{operators, assignment_operators, ste
 ghost use Rattle.c_parse.specs.Trees.{name_of};
 ghost use Rattle.c_parse.specs.Modules.{headers};
 ghost use Rattle.c_parse.specs.Reading.{read_sign, read_picked, read_among, read_open};
-ghost use Rattle.c_parse.specs.ModuleReaders.{stmt_first};
+ghost use Rattle.c_parse.specs.ModuleReaders.{stmt_first, item_first};
 ghost use Rattle.c_parse.specs.ExpressionReaders.{expr_first, specifier_first};
 ghost use Rattle.c_parse.specs.Gives.{Gives, Takes};
 
@@ -362,6 +362,13 @@ pub fn starts_specifiers(t: &[Token]) -> bool
     at_word(Reserved::Enum, t) || specifier_word(t).is_some()
 }
 
+/// Whether an item may begin with what is at the front.
+pub fn starts_item(t: &[Token]) -> bool
+    ensures { result ≡ member (look t.now) item_first }
+{
+    include(t).is_some() || starts_specifiers(t)
+}
+
 /// Whether an expression may begin with what is at the front.
 pub fn starts_expression(t: &[Token]) -> bool
     ensures { result ≡ member (look t.now) expr_first }
@@ -429,6 +436,16 @@ pub fn after(p: Punct, t: &[Token]) -> Option<(u32, &[Token])>
 {
     match t.split_first() {
         Some((first, rest)) if at(p, t) => Some((first.line, rest)),
+        _ => None,
+    }
+}
+
+/// The same of a word.
+pub fn after_word(w: Reserved, t: &[Token]) -> Option<(u32, &[Token])>
+    ensures { Takes (λ x. (x.0, x.1.now)) result (member (look t.now) (word w ∷ [])) (read_sign (word w) t.now) }
+{
+    match t.split_first() {
+        Some((first, rest)) if at_word(w, t) => Some((first.line, rest)),
         _ => None,
     }
 }

@@ -6,8 +6,11 @@ mod expression;
 mod fault;
 mod front;
 mod node;
+mod parser;
 mod precedence;
 mod refusal;
+mod statement;
 
 pub use fault::{ParseFault, ParseKind};
+pub use parser::parse;
 pub use precedence::Precedence;
