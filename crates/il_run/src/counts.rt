@@ -1,5 +1,5 @@
 //! The number of calls.
-ghost use Rattle.std.specs.Prelude.{◌≡◌, ◌^◌, ◌<◌, ◌≤◌, IfOk, List, length, slice_index_or, map, replicate, ℕ};
+ghost use Rattle.std.specs.Prelude.{◌≡◌, [], ◌^◌, ◌<◌, ◌≤◌, IfOk, List, length, slice_index_or, map, replicate, ℕ};
 ghost use Rattle.il_core.specs.Meaning.{sites_in, sites_of};
 ghost use Rattle.il_core.specs.Routine.{RoutineParts};
 ghost use Rattle.il_core.specs.Size.{blocks_size};
@@ -36,7 +36,10 @@ impl Counts {
     }
 
     /// No counts. It takes no memory.
-    pub(crate) fn empty(alloc: Global) -> Counts {
+    pub(crate) fn empty(alloc: Global) -> Counts
+        ensures entries { result.entries ≡ [] }
+        ensures sites { result.sites ≡ [] }
+    {
         Counts {
             entries: Seq::new(alloc),
             sites: Seq::new(alloc),
