@@ -2,10 +2,21 @@
 //! a node. `specs/` has what they mean: the meaning of C, and the meaning of linked modules.
 #![tactic(auto)]
 
+mod binding;
+mod checker;
+mod constant;
+mod conversion;
 mod expression;
+mod fault;
 mod function;
+mod nodes;
+mod plain;
+mod scopes;
+mod specifiers;
 mod statement;
+mod uses;
 
 pub use expression::{Array, BinaryOp, LogicalOp, Place, TypedExpr, Variable};
+pub use fault::{TypeFault, TypeKind};
 pub use function::{Local, Parameter, TypedFunction, TypedModule};
 pub use statement::{Label, Section, TypedStmt};
