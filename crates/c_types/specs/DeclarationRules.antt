@@ -202,8 +202,8 @@ type_or_none (Some ty) = ty ∷ []
 -- a single unnamed parameter of type void stands for no parameters
 abbrev pub parameters : List Parameter → Rule (List Ty)
 parameters (p ∷ []) = if is_none p.name then (do
-    s ← specifying p.specifiers sites.Parameter
-    give (type_or_none s.ty)) else parameters_from 0 (p ∷ [])
+  s ← specifying p.specifiers sites.Parameter
+  give (type_or_none s.ty)) else parameters_from 0 (p ∷ [])
 parameters ps = parameters_from 0 ps
 
 -- a declarator of a function at file scope
@@ -211,10 +211,10 @@ abbrev pub file_function : ℕ → Specified → Declarator → List Parameter �
 file_function number s d ps = do
   types ← scoped (parameters ps)
   if is_library d.name.name
-    then declare_library d.name s.storage (entities.Function s.ty types) false
-    else (do
-      l ← link number d.name s.storage true standings.Declared (entities.Function s.ty types)
-      change (bind d.name.name (bindings.Function l.pid l.internal)))
+      then declare_library d.name s.storage (entities.Function s.ty types) false
+      else (do
+        l ← link number d.name s.storage true standings.Declared (entities.Function s.ty types)
+        change (bind d.name.name (bindings.Function l.pid l.internal)))
   no_initialiser d.initialiser
 
 -- whether an object is a variable or an array, with its length where the declarator or its initialiser has it
@@ -279,12 +279,12 @@ file_object number s d = do
   ty ← value_type d.name.line s.ty
   said ← file_extent d.name.line d.shape d.initialiser
   if is_library d.name.name
-    then broken d.name.line kinds.Library
-    else (do
-      old ← known (bound_here d.name.name)
-      l ← link number d.name s.storage false (object_standing s.storage d.initialiser) (object_entity ty s.fixed said)
-      change (bind d.name.name (bindings.Object l.pid l.internal ty s.fixed (extent_or said old)))
-      begun d.name l.pid ty (extent_or said old) s.storage d.initialiser)
+      then broken d.name.line kinds.Library
+      else (do
+        old ← known (bound_here d.name.name)
+        l ← link number d.name s.storage false (object_standing s.storage d.initialiser) (object_entity ty s.fixed said)
+        change (bind d.name.name (bindings.Object l.pid l.internal ty s.fixed (extent_or said old)))
+        begun d.name l.pid ty (extent_or said old) s.storage d.initialiser)
 
 abbrev pub file_shape : ℕ → Specified → Declarator → Shape → Rule (Unit {0})
 file_shape number s d (shapes.Function ps) = file_function number s d ps

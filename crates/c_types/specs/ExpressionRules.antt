@@ -33,7 +33,7 @@ use Rattle.c_types.specs.declared.conversion.Valued.{Valued}
 use Rattle.c_types.specs.declared.conversion.Target.{Target}
 use Rattle.c_types.specs.declared.conversion.Operator.{Operator}
 use Rattle.c_types.specs.declared.conversion.Operator.TheVariants.{Skipping, Working}
-use Rattle.c_types.specs.Constants.{word_of_value, binary_value, logical_value, chosen_value, cast_value, unary_value, constant_name, constant_element} 
+use Rattle.c_types.specs.Constants.{word_of_value, binary_value, logical_value, chosen_value, cast_value, unary_value, constant_name, constant_element}
 use Rattle.c_types.specs.Conversions.{converted, sorted, left_type, right_type, result_type, unary_type, operand_type, wanted, arms_type, arm, common}
 use Rattle.c_types.specs.Enumerations.{value_in, enumerator}
 use Rattle.c_types.specs.Rules.{Here, Rule, ◌>>=◌, ◌>>◌, give, broken, known, change, unless}

@@ -47,7 +47,7 @@ scoped rule = do
 
 -- what a tag stands for
 abbrev pub tag : Tag
-tag = record { }
+tag = record {}
 
 -- a tag is declared, in whatever scope
 abbrev pub use_tag : Identifier → Rule (Unit {0})

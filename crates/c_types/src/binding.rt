@@ -31,7 +31,10 @@ pub enum Binding {
     /// A function of the library.
     Library(Library),
     /// A function of the program, by its PID.
-    Function { pid: u32, internal: bool },
+    Function {
+        pid: u32,
+        internal: bool,
+    },
     /// An object at file scope, by its PID, with the length that the module has given so far.
     Object {
         pid: u32,
@@ -48,5 +51,9 @@ pub enum Binding {
         extent: Extent,
     },
     /// A parameter of the function, by its place among them.
-    Parameter { place: u32, ty: Ty, fixed: bool },
+    Parameter {
+        place: u32,
+        ty: Ty,
+        fixed: bool,
+    },
 }

@@ -78,12 +78,7 @@ fn binary_word(line: u32, op: BinaryOp, ty: Ty, a: u32, b: u32) -> Evaluated
 }
 
 /// An operator on constants.
-pub(crate) fn binary_value(
-    line: u32,
-    op: BinaryOp,
-    a: ConstantValue,
-    b: ConstantValue,
-) -> Evaluated
+pub(crate) fn binary_value(line: u32, op: BinaryOp, a: ConstantValue, b: ConstantValue) -> Evaluated
     ensures { result ≡ specs.binary_value line op a.ty a.value b.ty b.value }
 {
     match a.value {
@@ -135,13 +130,7 @@ pub(crate) fn chosen_value(c: Evaluated, a: Evaluated, b: Evaluated) -> Evaluate
     ensures { result ≡ specs.chosen_value c a b }
 {
     match c {
-        Evaluated::Word(x) => {
-            if x == 0 {
-                b
-            } else {
-                a
-            }
-        }
+        Evaluated::Word(x) => { if x == 0 { b } else { a } }
         Evaluated::Traps(at) => Evaluated::Traps(at),
     }
 }

@@ -93,14 +93,22 @@ pub(crate) fn common(a: Ty, b: Ty) -> Ty
 pub(crate) fn left_type(op: BinaryOp, a: Ty, b: Ty) -> Ty
     ensures { result ≡ left_type op a b }
 {
-    if is_shift(op) { promote(a) } else { common(a, b) }
+    if is_shift(op) {
+        promote(a)
+    } else {
+        common(a, b)
+    }
 }
 
 /// The type to which the right operand is converted.
 pub(crate) fn right_type(op: BinaryOp, a: Ty, b: Ty) -> Ty
     ensures { result ≡ right_type op a b }
 {
-    if is_shift(op) { promote(b) } else { common(a, b) }
+    if is_shift(op) {
+        promote(b)
+    } else {
+        common(a, b)
+    }
 }
 
 /// The type of the result.

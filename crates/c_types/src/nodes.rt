@@ -4,10 +4,9 @@ ghost use Rattle.c_types.specs.ExpressionRules as rules;
 ghost use Rattle.c_types.specs.Conversions as specs;
 ghost use Rattle.c_types.specs.Uses as uses;
 
-
 use crate::conversion::{
-    Operator, Target, Typed, Valued, arm, converted, left_type, operand_type, result_type, right_type,
-    unary_type,
+    Operator, Target, Typed, Valued, arm, converted, left_type, operand_type, result_type,
+    right_type, unary_type,
 };
 use crate::expression::{BinaryOp, Place, TypedExpr};
 use crate::uses::{Called, Subscripted};
@@ -59,12 +58,7 @@ pub(crate) fn unary(alloc: Global, op: UnaryOp, v: Valued) -> Result<Typed, Allo
 }
 
 /// `a op b`
-pub(crate) fn binary(
-    alloc: Global,
-    op: Operator,
-    a: Valued,
-    b: Valued,
-) -> Result<Typed, AllocError>
+pub(crate) fn binary(alloc: Global, op: Operator, a: Valued, b: Valued) -> Result<Typed, AllocError>
     ensures { IfOk result (λ t. t ≡ rules.binary op a b) }
 {
     match op {
@@ -109,7 +103,12 @@ pub struct Arms {
 }
 
 /// Both arms of `?:`.
-pub(crate) fn both_arms(alloc: Global, ty: Option<Ty>, a: Typed, b: Typed) -> Result<Arms, AllocError>
+pub(crate) fn both_arms(
+    alloc: Global,
+    ty: Option<Ty>,
+    a: Typed,
+    b: Typed,
+) -> Result<Arms, AllocError>
     ensures { IfOk result (λ x. x ≡ rules.both_arms ty a b) }
 {
     let yes = boxed_arm(alloc, ty, a)?;
@@ -125,11 +124,7 @@ fn boxed_arm(alloc: Global, ty: Option<Ty>, a: Typed) -> Result<Boxed<TypedExpr>
 }
 
 /// `c ? a : b`
-pub(crate) fn conditional(
-    alloc: Global,
-    c: TypedExpr,
-    arms: Arms,
-) -> Result<Typed, AllocError>
+pub(crate) fn conditional(alloc: Global, c: TypedExpr, arms: Arms) -> Result<Typed, AllocError>
     ensures { IfOk result (λ t. t ≡ rules.conditional_node c arms) }
 {
     let condition = Boxed::new(alloc, c)?;

@@ -10,7 +10,9 @@ ghost use Rattle.c_types.specs.Follows.{Follows};
 
 use crate::binding::{Binding, Extent};
 use crate::checker::{Checker, broken};
-use crate::constant::{Constant, ConstantValue, Evaluated, binary_value, is_signed, logical_value, unary_value};
+use crate::constant::{
+    Constant, ConstantValue, Evaluated, binary_value, is_signed, logical_value, unary_value,
+};
 use crate::conversion::{Operator, Target, Typed, Valued, common, result_type, sorted, unary_type};
 use crate::fault::{TypeFault, TypeKind};
 use crate::nodes;

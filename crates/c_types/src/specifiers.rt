@@ -233,11 +233,25 @@ fn type_of_counts(c: Counts) -> Option<Option<Ty>>
         Some(Some(Ty::Int))
     } else if is_set(char, false, true, c) {
         Some(Some(Ty::Char))
-    } else if same(c, Counts { unsigned: 1, ..char }) {
+    } else if same(
+        c,
+        Counts {
+            unsigned: 1,
+            ..char
+        },
+    ) {
         Some(Some(Ty::UChar))
     } else if is_set(short, true, true, c) {
         Some(Some(Ty::Short))
-    } else if is_set(Counts { unsigned: 1, ..short }, true, false, c) {
+    } else if is_set(
+        Counts {
+            unsigned: 1,
+            ..short
+        },
+        true,
+        false,
+        c,
+    ) {
         Some(Some(Ty::UShort))
     } else if is_set(int, false, true, c) {
         Some(Some(Ty::Int))
@@ -247,7 +261,15 @@ fn type_of_counts(c: Counts) -> Option<Option<Ty>>
         Some(Some(Ty::UInt))
     } else if is_set(long, true, true, c) {
         Some(Some(Ty::Long))
-    } else if is_set(Counts { unsigned: 1, ..long }, true, false, c) {
+    } else if is_set(
+        Counts {
+            unsigned: 1,
+            ..long
+        },
+        true,
+        false,
+        c,
+    ) {
         Some(Some(Ty::ULong))
     } else {
         None

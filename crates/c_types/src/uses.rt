@@ -67,10 +67,7 @@ impl Checker {
         match b {
             Binding::Constant(value) => Ok(Typed {
                 ty: Some(Ty::Int),
-                expr: TypedExpr::Constant {
-                    ty: Ty::Int,
-                    value,
-                },
+                expr: TypedExpr::Constant { ty: Ty::Int, value },
             }),
             Binding::Parameter { place, ty, .. } => Ok(read(ty, Variable::Parameter(place))),
             Binding::Local {
