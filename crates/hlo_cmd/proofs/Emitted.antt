@@ -1,5 +1,5 @@
 -- What reading and lowering an expression adds up to, step by step, on plain states.
-use Rattle.std.proofs.Common.{◌≡◌, ℕ, zero, suc, ◌+◌, ◌-◌, ◌<◌, ◌≤◌, List, [], ◌∷◌, ◌++◌, length, Option, Some, None, refl, sym, ◌∙◌, ap, subst, arith, append_assoc}
+use Rattle.std.proofs.Common.{◌≡◌, ℕ, suc, ◌+◌, ◌≤◌, List, [], ◌∷◌, ◌++◌, length, Option, Some, None, refl, sym, ◌∙◌, ap, subst, arith, append_assoc}
 use Rattle.il_core.specs.declared.instr.Instr.{Instr}
 use Rattle.il_core.specs.declared.instr.Instr.TheVariants.{Bin, Const, GetChar, PutChar}
 use Rattle.hlo_num.specs.declared.word.Op.{Op}
@@ -7,7 +7,6 @@ use Rattle.hlo_cmd.specs.declared.code.Code.{Code}
 use Rattle.hlo_cmd.specs.declared.token.Token.{Token}
 use Rattle.hlo_cmd.specs.declared.token.Token.TheVariants as token
 use Rattle.hlo_cmd.specs.Emitting.{Puts, Emits, Lowers}
-use Rattle.hlo_cmd.specs.Grammar.{prims}
 use Rattle.hlo_cmd.specs.Lowering.{op_of, regs_after, reg_of, code}
 use Rattle.hlo_cmd.specs.Reading.{Reply, Reader, goes, then_tokens, behind_close, operator_at, row, row_step, operands, enclosed, read_prim, read_term, read_expr, sum_at}
 use Rattle.hlo_cmd.proofs.Rows.{Shrinks, row_longer, operator_back}

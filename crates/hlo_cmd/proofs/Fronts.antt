@@ -35,3 +35,13 @@ says before after old new (Err f) bytes line e h cause = inr (record { rose = ca
 -- the line of a refusal
 pub line_of : (refusal known : Refusal) (file name : List ℕ) → refusal ≡ known → name ≡ file → status_line (status_of known) name ≡ status_line (status_of refusal) file
 line_of refusal known file name e f = ap (λ r. status_line (status_of r) name) (sym e) ∙ ap (status_line (status_of refusal)) f
+
+-- a whole piece, and then another one
+pub then_takes : {T E : Type 0} (a b c : Option (List ℕ)) (r : Result T E) (xs ys : List ℕ) → Appends a b xs → TakesAll b c r ys → TakesAll a c r (xs ++ ys)
+then_takes a b c (Ok x) xs ys h g = Appends-trans a b c xs ys h g
+then_takes a b c (Err e) xs ys h g = then_failed a b c g.0 xs ys h g.1
+
+-- the pieces are the line
+pub takes_line : {T E : Type 0} (a b : Option (List ℕ)) (r : Result T E) (bytes line : List ℕ) → bytes ≡ line → TakesAll a b r bytes → TakesAll a b r line
+takes_line a b (Ok x) bytes line e h = subst (Appends a b) e h
+takes_line a b (Err f) bytes line e h = (h.0, subst (λ l. Appends a b (take h.0 l)) e h.1)

@@ -1,8 +1,13 @@
+pub mod CheckSamples
 pub mod Emitted
 pub mod Files
+pub mod FileWords
 pub mod Fronts
+pub mod Going
 pub mod Kept
 pub mod Limits
+pub mod Lines
+pub mod Modules
 pub mod Numbers
 pub mod Promises
 pub mod Readings

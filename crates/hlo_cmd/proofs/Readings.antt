@@ -1,10 +1,10 @@
 -- What is read from the front of a list of tokens is what the grammar spells there, on both sides.
-use Rattle.std.proofs.Common.{◌≡◌, ℕ, zero, suc, ◌+◌, ◌<◌, ◌≤◌, Bool, true, false, List, [], ◌∷◌, ◌++◌, length, Option, Some, None, refl, sym, ◌∙◌, ap, subst, arith, inl, inr, append-nil, append_assoc, length-append}
-use Rattle.std.specs.Prelude.{◌⊎◌, IsTrue}
+use Rattle.std.proofs.Common.{◌≡◌, ℕ, zero, suc, ◌≤◌, List, [], ◌∷◌, ◌++◌, Some, None, refl, sym, ◌∙◌, ap, subst, arith, inl, inr, append_assoc}
+use Rattle.std.specs.Prelude.{◌⊎◌}
 use Rattle.hlo_cmd.specs.declared.token.Token.{Token}
 use Rattle.hlo_cmd.specs.declared.token.Token.TheVariants as token
-use Rattle.hlo_cmd.specs.Grammar.{Level, Prim, Term, Sum, level_of, below, derives, sign, Spells, prims}
-use Rattle.hlo_cmd.specs.Reading.{Reply, Reader, goes, then_tokens, behind_open, behind_close, behind_semicolon, operator_at, product_at, sum_at, enclosed, prim_at, read_prim, read_term, read_expr}
+use Rattle.hlo_cmd.specs.Grammar.{Level, Prim, Term, Sum, level_of, sign, Spells, prims}
+use Rattle.hlo_cmd.specs.Reading.{Reader, goes, then_tokens, behind_open, behind_close, behind_semicolon, operator_at, product_at, sum_at, enclosed, prim_at, read_prim, read_term, read_expr}
 use Rattle.hlo_cmd.specs.Tree.{Arithmetic, Plus, Minus, Times, Expr, Constant, Paren, Binary, GetByte, PutByte}
 use Rattle.hlo_cmd.proofs.Rows.{same_reply, goes_back, then_back, Rule, Meets, operands_meet, Shrinks, shrinks_of}
 

@@ -1,8 +1,8 @@
 -- Rows of operands: what is read of them is what the grammar spells, on both sides.
-use Rattle.std.proofs.Common.{◌≡◌, ℕ, zero, suc, ◌+◌, ◌<◌, ◌≤◌, Bool, true, false, List, [], ◌∷◌, ◌++◌, length, Option, Some, None, refl, sym, ◌∙◌, ap, subst, arith, inl, inr, append-nil, append_assoc, length-append}
+use Rattle.std.proofs.Common.{◌≡◌, ℕ, zero, suc, ◌<◌, ◌≤◌, List, [], ◌∷◌, ◌++◌, length, Option, Some, None, refl, sym, ◌∙◌, ap, subst, arith, inl, inr, append-nil, append_assoc, length-append}
 use Rattle.std.specs.Prelude.{◌⊎◌, IsTrue}
 use Rattle.hlo_cmd.specs.declared.token.Token.{Token}
-use Rattle.hlo_cmd.specs.Grammar.{Level, Prim, Term, Sum, level_of, below, derives, sign, Spells, prims}
+use Rattle.hlo_cmd.specs.Grammar.{Level, Prim, level_of, below, derives, sign, Spells, prims}
 use Rattle.hlo_cmd.specs.Reading.{Reply, Reader, goes, then_tokens, operator_at, with_tokens, row_step, row, operands}
 use Rattle.hlo_cmd.specs.Tree.{Arithmetic, Expr, Constant, Paren, Binary, GetByte, PutByte}
 

@@ -1,6 +1,5 @@
 -- From a text's tokens to the programs that the text is.
-use Rattle.std.proofs.Common.{◌≡◌, ℕ, ◌≤◌, Bool, true, false, List, [], ◌∷◌, ◌++◌, length, drop, refl, sym, ◌∙◌, ap, subst, arith, length-append}
-use Rattle.std.specs.Prelude.{codes}
+use Rattle.std.proofs.Common.{◌≡◌, ℕ, ◌≤◌, Bool, true, false, List, ◌∷◌, length, drop, refl, sym, ◌∙◌, ap, subst, arith, length-append}
 use Rattle.hlo_cmd.specs.declared.token.Token.{Token}
 use Rattle.hlo_cmd.specs.declared.token.Token.TheVariants as token
 use Rattle.hlo_cmd.specs.Grammar.{IsRest, IsSource, IsOnlySource, HasRest, include_line, max_bytes, max_prims}

@@ -3,18 +3,17 @@ use Rattle.std.proofs.Common.{◌≡◌, ℕ, zero, suc, ◌+◌, ◌<◌, ◌�
 use Rattle.std.specs.Prelude.{nat_le, if◌then◌else◌}
 use Rattle.std.proofs.lemmas.Bool.{le-leb, leb-true}
 use Rattle.il_core.specs.declared.instr.Block.{Block}
-use Rattle.il_core.specs.declared.instr.Instr.{Instr}
 use Rattle.hlo_cmd.specs.declared.code.Code.{Code}
 use Rattle.hlo_cmd.specs.declared.draft.Draft.{Draft}
 use Rattle.hlo_cmd.specs.declared.token.Token.{Token}
 use Rattle.hlo_cmd.specs.declared.token.Token.TheVariants as token
 use Rattle.hlo_cmd.specs.Emitting.{Emits, put_front, joined, Extends, finished}
-use Rattle.hlo_cmd.specs.Grammar.{Level, Sum, level_of, below, sign, Spells, prims, max_prims, IsWhole, IsRest}
+use Rattle.hlo_cmd.specs.Grammar.{Level, Sum, level_of, sign, Spells, prims, max_prims, IsWhole, IsRest}
 use Rattle.hlo_cmd.specs.Lowering.{regs_after, reg_of, code, returning, in_front, blocks, regs_of, main_routine}
-use Rattle.hlo_cmd.specs.Reading.{Reply, Reader, goes, then_tokens, behind_semicolon, read_expr, ended, read_whole, made, read_stmt}
+use Rattle.hlo_cmd.specs.Reading.{Reply, goes, behind_semicolon, read_expr, ended, read_whole, made, read_stmt}
 use Rattle.hlo_cmd.specs.Tree.{Expr, Constant, Paren, Binary, GetByte, PutByte, Stmt, Eval, Return, Body}
 use Rattle.hlo_cmd.proofs.Rows.{goes_back, then_back, same_reply, left_or, right_or}
-use Rattle.hlo_cmd.proofs.Readings.{Ends, semicolon_back, reads_expr}
+use Rattle.hlo_cmd.proofs.Readings.{semicolon_back, reads_expr}
 
 -- ---- an expression and its semicolon
 

@@ -1,5 +1,5 @@
 -- The lowered program is valid.
-use Rattle.std.proofs.Common.{◌≡◌, ℕ, ◌+◌, ◌^◌, ◌<◌, ◌≤◌, true, List, [], ◌∷◌, length, refl, sym, ◌∙◌, ap, subst, arith}
+use Rattle.std.proofs.Common.{◌≡◌, ℕ, ◌+◌, ◌<◌, ◌≤◌, true, List, [], ◌∷◌, length, refl, ap, arith}
 use Rattle.std.specs.List.{AllByRecursion}
 use Rattle.il_core.specs.declared.instr.Block.{Block}
 use Rattle.il_core.specs.declared.instr.Instr.{Instr}

@@ -13,10 +13,14 @@ use Rattle.hlo_cmd.specs.Lowering.{lowered}
 use Rattle.hlo_cmd.specs.Meaning.{c_run}
 use Rattle.hlo_cmd.specs.Tree.{Body}
 
+-- a word that stands for a file: it doesn't begin with `-`
+abbrev pub IsFileWord : List ℕ → Type 0
+IsFileWord word = (slice_index word 0 == 45) ≡ false
+
 -- the words are `opt FILE`, and FILE doesn't begin with `-`
 pub record IsRequest (words : List (List ℕ)) (file : List ℕ) : Type 0 where
   pub spelled : words ≡ codes "opt" ∷ file ∷ []
-  pub plain : (slice_index file 0 == 45) ≡ false
+  pub plain : IsFileWord file
 
 -- the file has this body of `main`, and no other, as far as it is told
 abbrev pub HasSource : Told → Body → Type 0

@@ -1,9 +1,12 @@
+pub mod Check
+pub mod Checking
 pub mod Command
 pub mod Grammar
 pub mod Lexical
 pub mod Lowering
 pub mod Emitting
 pub mod Meaning
+pub mod Plain
 pub mod Reading
 pub mod Refusal
 pub mod Scanning

@@ -1,13 +1,17 @@
 //! The top calls of the program.
 #![tactic(auto)]
 
+mod check;
 mod code;
 mod command;
 mod compile;
 mod draft;
 mod expr;
 mod fault;
+mod messages;
+mod module_fault;
 mod pieces;
+mod plain;
 mod refusal;
 mod report;
 mod scan;
@@ -16,4 +20,5 @@ mod tokens;
 mod words;
 
 pub use command::opt_command;
+pub use plain::plain_command;
 pub use report::{OptAnswer, Report, Status};

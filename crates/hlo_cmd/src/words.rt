@@ -1,6 +1,8 @@
 //! The words of the command line.
-ghost use Rattle.std.specs.Prelude.{◌≡◌, ◌==◌, ℕ, List, slice_index, map, MatchOption, string_bytes};
+ghost use Rattle.std.specs.Prelude.{◌≡◌, ◌==◌, ℕ, List, not, slice_index, map, MatchOption, string_bytes};
+ghost use Rattle.std.specs.List.{list_all};
 ghost use Rattle.hlo_cmd.specs.Command.{IsRequest, file_word};
+ghost use Rattle.hlo_cmd.specs.Plain.{IsCheck};
 
 /// The file of the words `opt FILE`, where it doesn't begin with `-`.
 pub(crate) fn requested_file(words: &[String]) -> Option<&str>
@@ -14,6 +16,33 @@ pub(crate) fn requested_file(words: &[String]) -> Option<&str>
         return None;
     }
     Some(file.as_str())
+}
+
+/// The greatest number of files of one command.
+const MAX_FILES: usize = 64;
+
+/// The files of the words `check FILE...`: one to 64, where none begins with `-`.
+pub(crate) fn checked_files(words: &[String]) -> Option<&[String]>
+    ensures { MatchOption result
+        ((files : List (List ℕ)) → IsCheck (map string_bytes words.now) files → ⊥)
+        (λ files. IsCheck (map string_bytes words.now) (map string_bytes files.now)) }
+{
+    let (command, files) = words.split_first()?;
+    if command.as_str() != "check"
+        || files.is_empty()
+        || files.len() > MAX_FILES
+        || !are_files(files)
+    {
+        return None;
+    }
+    Some(files)
+}
+
+/// Whether none of the words begins with `-`.
+fn are_files(words: &[String]) -> bool
+    ensures { result ≡ list_all (λ word. not (slice_index (string_bytes word) 0 == 45)) words.now }
+{
+    words.iter().all(|word| !begins_with_dash(word.as_str()))
 }
 
 /// Whether a word begins with `-`.

@@ -51,7 +51,7 @@ module _ {S : Type 0} (call : Act S) (back : ℕ → Next S) (n : Lengths) where
       ∙ sym (pass_all all b u f w (omega arith))
       ∙ go_to all u f w
 
-sites_take : (is : List Instr) (j : ℕ) (i : Instr) → drop j is ≡ i ∷ drop (suc j) is → sites_of (take (suc j) is) ≡ sites_of (take j is) + sites_in i
+pub sites_take : (is : List Instr) (j : ℕ) (i : Instr) → drop j is ≡ i ∷ drop (suc j) is → sites_of (take (suc j) is) ≡ sites_of (take j is) + sites_in i
 sites_take [] zero i e = cc
 sites_take [] (suc j) i e = cc
 sites_take (y ∷ is) zero i e = let same : y ≡ i = cc in ap (λ (z : Instr). sites_in z + 0) same ∙ omega arith

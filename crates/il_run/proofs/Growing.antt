@@ -7,7 +7,7 @@ use Rattle.il_core.specs.declared.program.IlProgram.{IlProgram}
 use Rattle.il_core.specs.Routine.{RoutineParts}
 use Rattle.il_core.specs.Program.{routine_at}
 use Rattle.il_core.specs.World.{World, Outcome, Returns, Ends, Stuck}
-use Rattle.il_core.specs.Meaning.{received, Lengths, lengths, Next, Act, sites_of, finish, enter, Recorder, noted, no_log, exec, act_noting, Run, run_of}
+use Rattle.il_core.specs.Meaning.{received, Lengths, lengths, Next, Act, sites_of, finish, enter, Recorder, noted, exec, act_noting, Run, run_of, MadeCall, add_call}
 use Rattle.il_run.specs.declared.machine.Machine.{Machine}
 use Rattle.il_run.specs.declared.machine.Suspended.{Suspended}
 use Rattle.il_run.specs.declared.tables.Tables.{Tables}
@@ -50,8 +50,8 @@ run_grows t out (Ends x output log) r a e = subst (λ (y : Run). Grows out y.out
 run_grows t out Stuck r a e = absurd (none-some r e)
 
 -- what is put out stays in the output
-pub output_grows : (p : IlProgram) (t : Tables) (m : Machine) (input output : List ℕ) (r : Run) → run_of (to_come p t m input output) ≡ Some r → Grows output r.output
-output_grows p t m input output r e =
-    let w : World (Unit {0}) = world_in no_log p t m input output tt in
-    let here = (run_like no_log p m.turns (routine_in p m.routine) m.block m.instr).by (frame_in m.store (routine_in p m.routine)) w (omega arith) in
-    run_grows m.turns output (to_come p t m input output) r (resume_after no_log p m.store.regs.items m.store.elements.items m.stack.items m.turns output (run_from no_log p (routine_in p m.routine) m.block m.instr (frame_in m.store (routine_in p m.routine)) w) here.1) e
+pub output_grows : (p : IlProgram) (t : Tables) (m : Machine) (input output : List ℕ) (calls : List MadeCall) (r : Run) → run_of (to_come p t m input output calls) ≡ Some r → Grows output r.output
+output_grows p t m input output calls r e =
+    let w : World (List MadeCall) = world_in add_call p t m input output calls in
+    let here = (run_like add_call p m.turns (routine_in p m.routine) m.block m.instr).by (frame_in m.store (routine_in p m.routine)) w (omega arith) in
+    run_grows m.turns output (to_come p t m input output calls) r (resume_after add_call p m.store.regs.items m.store.elements.items m.stack.items m.turns output (run_from add_call p (routine_in p m.routine) m.block m.instr (frame_in m.store (routine_in p m.routine)) w) here.1) e

@@ -10,7 +10,7 @@ use Rattle.il_core.specs.Routine.{RoutineParts}
 use Rattle.il_core.specs.Program.{routine_at, main_pid, initial_word}
 use Rattle.il_core.specs.Valid.{IsProgram}
 use Rattle.il_core.specs.World.{World}
-use Rattle.il_core.specs.Meaning.{Frame, frame_of, begin, exec, at_start, no_log}
+use Rattle.il_core.specs.Meaning.{Frame, frame_of, begin, exec, at_start, MadeCall, add_call}
 use Rattle.il_run.specs.declared.machine.Machine.{Machine}
 use Rattle.il_run.specs.declared.machine.Suspended.{Suspended}
 use Rattle.il_run.specs.declared.store.Store.{Store}
@@ -80,10 +80,10 @@ module _ (p : IlProgram) (valid : IsProgram p) (t : Tables) (tabled : IsTabled p
           stacked = subst (λ (zs : List Suspended). Stacked p 0 0 zs s.at_regs s.at_elements) (sym none) (sym at_regs, sym at_elements);
         };
         same = λ input.
-            let w : World (Unit {0}) = at_start tt p input turns in
-            ap (λ (zs : List Suspended). resume no_log p s.regs.items s.elements.items zs (run_from no_log p r 0 0 (frame_in s r) (world_in no_log p t m input [] tt))) none
-            ∙ ap (λ (f : Frame). run_from no_log p r 0 0 f (world_in no_log p t m input [] tt)) frame
-            ∙ ap (λ (os : ℕ → ℕ → ℕ). run_from no_log p r 0 0 (frame_of []) (record w { objects = os })) objects
-            ∙ sym (exec_from no_log p r 0 (frame_of []) w)
-            ∙ sym (ap (λ (o : Option RoutineParts). begin (exec no_log p (suc turns)) o [] w) at.found);
+            let w : World (List MadeCall) = at_start [] p input turns in
+            ap (λ (zs : List Suspended). resume add_call p s.regs.items s.elements.items zs (run_from add_call p r 0 0 (frame_in s r) (world_in add_call p t m input [] []))) none
+            ∙ ap (λ (f : Frame). run_from add_call p r 0 0 f (world_in add_call p t m input [] [])) frame
+            ∙ ap (λ (os : ℕ → ℕ → ℕ). run_from add_call p r 0 0 (frame_of []) (record w { objects = os })) objects
+            ∙ sym (exec_from add_call p r 0 (frame_of []) w)
+            ∙ sym (ap (λ (o : Option RoutineParts). begin (exec add_call p (suc turns)) o [] w) at.found);
       }

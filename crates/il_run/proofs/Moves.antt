@@ -8,7 +8,7 @@ use Rattle.il_core.specs.declared.instr.End.{End}
 use Rattle.il_core.specs.declared.instr.End.TheVariants as ends
 use Rattle.il_core.specs.declared.program.IlProgram.{IlProgram}
 use Rattle.il_core.specs.World.{World, Outcome, Returns, Ends, Stuck, Exit, Trapped, OutOfTurns, ended, each, from_list, turn_at, with_return, first_byte, other_bytes, after_get, after_put, low_byte, choose}
-use Rattle.il_core.specs.Meaning.{Frame, with_reg, frame_of, received, returned, Next, step, finish, Recorder, noted, no_log, run_of, lengths}
+use Rattle.il_core.specs.Meaning.{Frame, with_reg, frame_of, received, returned, Next, step, finish, Recorder, noted, run_of, lengths}
 use Rattle.il_run.specs.declared.machine.Machine.{Machine}
 use Rattle.il_run.specs.declared.machine.Suspended.{Suspended}
 use Rattle.il_run.specs.declared.store.Store.{Store}
@@ -16,10 +16,10 @@ use Rattle.il_run.specs.declared.tables.Tables.{Tables}
 use Rattle.il_run.specs.Blocks.{run_from, calls_of, backs_of}
 use Rattle.il_run.specs.Plain.{Data, IsPlain, plain, frame_in, data_in, lengths_of, KeepsBelow, Executes, SetsReg}
 use Rattle.il_run.specs.Words.{arrays_in}
-use Rattle.il_run.specs.Machine.{routine_in, block_in, IsTabled, IsSuspended, Stacked, IsSound, frame_at, receive, resume, world_in, left, IsNext}
+use Rattle.il_run.specs.Machine.{routine_in, block_in, IsTabled, IsSuspended, Stacked, IsSound, frame_at, receive, resume, world_in, left, IsNext, site_at}
 use Rattle.il_run.proofs.Arms.{sets_data, sets_below, reg_is}
 use Rattle.il_run.proofs.Blocks.{back_from}
-use Rattle.il_run.proofs.Places.{site_at, run_instr, run_finish, later, later_is, with_data, plain_step, lengths_are}
+use Rattle.il_run.proofs.Places.{run_instr, run_finish, later, later_is, with_data, plain_step, lengths_are}
 use Rattle.il_run.proofs.Words.{window_below, arrays_below}
 
 module _ (p : IlProgram) where

@@ -1,5 +1,5 @@
 -- The run from a place of a routine, and what is left there.
-use Rattle.std.proofs.Common.{◌≡◌, ℕ, zero, suc, ◌+◌, ◌-◌, ◌<◌, ◌≤◌, List, [], ◌∷◌, length, take, drop, get_or, Bool, true, false, refl, ap, subst, sym, ◌∙◌, arith, drop-cons}
+use Rattle.std.proofs.Common.{◌≡◌, ℕ, zero, suc, ◌+◌, ◌-◌, ◌<◌, ◌≤◌, List, [], ◌∷◌, length, drop, get_or, Bool, true, false, refl, ap, subst, sym, ◌∙◌, arith, drop-cons}
 use Rattle.std.specs.Prelude.{nat_lt, if◌then◌else◌, slice_index, Result, Ok, Err}
 use Rattle.std.specs.List.{AllByRecursion}
 use Rattle.std.proofs.lemmas.List.{drop_all, drop-drop}
@@ -21,17 +21,13 @@ use Rattle.il_core.specs.World.{World, Outcome, Trapped, ended, with_word}
 use Rattle.il_core.specs.Meaning.{Frame, with_reg, Lengths, lengths, Next, Act, step, sites_of, finish, enter, Recorder}
 use Rattle.il_run.specs.Blocks.{sites_before, from_block, calls_of, backs_of, run_from}
 use Rattle.il_run.specs.Plain.{Data, gets, plain, lengths_of, IsPlain}
-use Rattle.il_run.specs.Machine.{routine_in, block_in, IsTabled, work}
+use Rattle.il_run.specs.Machine.{routine_in, block_in, IsTabled, site_at, work}
 use Rattle.il_run.specs.declared.tables.Tables.{Tables}
 use Rattle.il_run.proofs.Blocks.{go_on, run_step, run_end}
 
 -- the blocks from one on begin with it
 pub block_here : (r : RoutineParts) (b : ℕ) → b < length r.blocks → drop b r.blocks ≡ block_in r b ∷ drop (suc b) r.blocks
 block_here r b lt = drop-cons r.blocks b (record { instrs = []; end = ends.Exit 0 }) lt
-
--- the number of the site that comes next
-abbrev pub site_at : RoutineParts → ℕ → ℕ → ℕ
-site_at r b j = sites_of (take j (block_in r b).instrs) + sites_before r.blocks b 0
 
 module _ {S : Type 0} (note : Recorder S) (p : IlProgram) (r : RoutineParts) where
   -- one instruction further

@@ -15,12 +15,12 @@ use Rattle.il_run.proofs.Valid.{found_here, found_there}
 use Rattle.il_run.proofs.Words.{element_in, element_out, before_later, after_earlier, named, zeros}
 
 module _ {X : Type 0} (number : X → ℕ) where
-  rising_at : (n : ℕ) (xs : List X) (i : ℕ) (d : X) → IsRisingFrom number n xs → i < length xs → n < number (get_or xs i d)
+  pub rising_at : (n : ℕ) (xs : List X) (i : ℕ) (d : X) → IsRisingFrom number n xs → i < length xs → n < number (get_or xs i d)
   rising_at n [] i d h lt = absurd (omega arith)
   rising_at n (x ∷ xs) zero d h lt = h.0
   rising_at n (x ∷ xs) (suc i) d h lt = let m = rising_at (number x) xs i d h.1 (omega arith) in let l : n < number x = h.0 in omega (arith, m)
 
-  rising_from_rising : (n : ℕ) (xs : List X) → IsRisingFrom number n xs → IsRising number xs
+  pub rising_from_rising : (n : ℕ) (xs : List X) → IsRisingFrom number n xs → IsRising number xs
   rising_from_rising n [] h = tt
   rising_from_rising n (x ∷ xs) h = h.1
 

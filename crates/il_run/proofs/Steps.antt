@@ -16,16 +16,16 @@ use Rattle.il_core.specs.Program.{routine_at}
 use Rattle.il_core.specs.Valid.{IsProgram, IsRegIfSome, IsValidInstr, IsValidEnd, NamesObject, is_wanted}
 use Rattle.std.specs.List.{AllByRecursion}
 use Rattle.il_run.specs.Frames.{Enters, Leaves, Receives}
-use Rattle.il_run.proofs.Valid.{object_of, callee_fits, pid_small}
-use Rattle.il_core.specs.World.{World, Outcome, Returns, each, Exit, Trapped, OutOfTurns, first_byte, other_bytes, low_byte}
-use Rattle.il_core.specs.Meaning.{run_of, no_log, returned}
+use Rattle.il_run.proofs.Valid.{found_number, object_of, callee_fits, pid_small}
+use Rattle.il_core.specs.World.{World, Outcome, Returns, Ends, each, Exit, Trapped, OutOfTurns, first_byte, other_bytes, low_byte}
+use Rattle.il_core.specs.Meaning.{run_of, log_of, returned, MadeCall, add_call}
 use Rattle.il_run.specs.declared.machine.Machine.{Machine}
 use Rattle.il_run.specs.declared.machine.Suspended.{Suspended}
 use Rattle.il_run.specs.declared.machine.Move.TheVariants as move
 use Rattle.il_run.specs.declared.store.Store.{Store}
 use Rattle.il_run.specs.declared.tables.Tables.{Tables}
 use Rattle.il_run.specs.Plain.{Executes, Fits, IsPlain, KeepsBelow, SetsReg, frame_in}
-use Rattle.il_run.specs.Machine.{routine_in, block_in, IsTabled, IsPlace, IsSound, IsNext, resume, world_in, work, to_come, Moved}
+use Rattle.il_run.specs.Machine.{routine_in, block_in, IsTabled, IsPlace, IsSound, IsNext, Over, resume, site_at, world_in, work, to_come, Moved}
 use Rattle.il_run.proofs.Arms.{sets_below}
 use Rattle.il_run.proofs.Places.{block_is_valid, routine_valid, work_step, work_later, work_whole, work_some}
 use Rattle.il_run.proofs.Moves.{plain_left, plain_trap, turn_left, turn_over, get_left, put_left, jump_left, branch_left, branch_zero, loop_left, loop_over, exit_left, AtEnd, end_run}
@@ -44,124 +44,140 @@ module _ (p : IlProgram) (t : Tables) (tabled : IsTabled p t) (old : Machine) (s
 
   pub turn_moves : IsNext p old Turn → 0 < old.turns → Moved p t old (record old { instr = old.instr + 1; turns = old.turns - 1 }) move.Next
   turn_moves next some = record {
-    sound = moved_sound {S = Unit {0}} no_log p t tabled old sound old.store same_below old.block (old.instr + 1) (old.turns - 1) (next_place Turn next);
+    sound = moved_sound {S = List MadeCall} add_call p t tabled old sound old.store same_below old.block (old.instr + 1) (old.turns - 1) (next_place Turn next);
     less = omega (arith, next_work Turn next);
-    same = λ input output. turn_left no_log p t tabled old sound input output tt next some;
+    same = λ input output calls. turn_left add_call p t tabled old sound input output calls next some;
   }
 
   -- the program ends in one step
   pub record EndsAs (e : Rattle.il_core.specs.World.Ending) : Type 0 where
-    pub by : (input output : List ℕ) → run_of (to_come p t old input output) ≡ Some (record { output = output; ending = e })
+    pub by : (input output : List ℕ) (calls : List MadeCall) → Over e output calls (to_come p t old input output calls)
+
+  ends_by : (e : Rattle.il_core.specs.World.Ending) → ((input output : List ℕ) (calls : List MadeCall) → to_come p t old input output calls ≡ Ends e output calls) → EndsAs e
+  ends_by e h = record { by = λ input output calls. record { run = ap run_of (h input output calls); made = ap (log_of []) (h input output calls) } }
 
   pub turn_ends : IsNext p old Turn → old.turns ≡ 0 → EndsAs OutOfTurns
-  turn_ends next none = record { by = λ input output. ap run_of (turn_over no_log p t tabled old sound input output tt next none) }
+  turn_ends next none = ends_by _ (λ input output calls. turn_over add_call p t tabled old sound input output calls next none)
 
   pub get_moves : (d : ℕ) → IsNext p old (GetChar d) → d < (routine_in p old.routine).regs → Moved p t old (record old { instr = old.instr + 1 }) (move.Get d)
   get_moves d next lt = record {
-    sound = moved_sound {S = Unit {0}} no_log p t tabled old sound old.store same_below old.block (old.instr + 1) old.turns (next_place (GetChar d) next);
+    sound = moved_sound {S = List MadeCall} add_call p t tabled old sound old.store same_below old.block (old.instr + 1) old.turns (next_place (GetChar d) next);
     less = omega (arith, next_work (GetChar d) next);
     at = next;
     reg = lt;
-    same = λ input output s set. get_left no_log p t tabled old sound d s input output tt next lt set;
+    same = λ input output calls s set. get_left add_call p t tabled old sound d s input output calls next lt set;
   }
 
   pub put_moves : (d x v b : ℕ) (s : Store) → IsNext p old (PutChar d x) → d < (routine_in p old.routine).regs → x < (routine_in p old.routine).regs
       → v ≡ slice_index old.store.regs.items (old.store.at_regs + x) → b ≡ low_byte v → SetsReg old.store s d b → Moved p t old (record old { store = s; instr = old.instr + 1 }) (move.Put b)
   put_moves d x v b s next lt ltx isv isb set = record {
-    sound = moved_sound {S = Unit {0}} no_log p t tabled old sound s (sets_below old.store (routine_in p old.routine) t.objects.sizes.items sound.holds s d b set) old.block (old.instr + 1) old.turns (next_place (PutChar d x) next);
+    sound = moved_sound {S = List MadeCall} add_call p t tabled old sound s (sets_below old.store (routine_in p old.routine) t.objects.sizes.items sound.holds s d b set) old.block (old.instr + 1) old.turns (next_place (PutChar d x) next);
     less = omega (arith, next_work (PutChar d x) next);
-    same = λ input output. put_left no_log p t tabled old sound d x v b s input output tt next lt ltx isv isb set;
+    same = λ input output calls. put_left add_call p t tabled old sound d x v b s input output calls next lt ltx isv isb set;
   }
 
   pub plain_moves : (i : Instr) (s : Store) → IsNext p old i → IsPlain i → Executes (routine_in p old.routine) t.objects.sizes.items i old.store s (Ok tt) → Moved p t old (record old { store = s; instr = old.instr + 1 }) move.Next
   plain_moves i s next is done = record {
-    sound = moved_sound {S = Unit {0}} no_log p t tabled old sound s done.below old.block (old.instr + 1) old.turns (next_place i next);
+    sound = moved_sound {S = List MadeCall} add_call p t tabled old sound s done.below old.block (old.instr + 1) old.turns (next_place i next);
     less = omega (arith, next_work i next);
-    same = λ input output. plain_left no_log p t tabled old sound i s input output tt next is done;
+    same = λ input output calls. plain_left add_call p t tabled old sound i s input output calls next is done;
   }
 
   pub plain_ends : (i : Instr) (s : Store) (tr : Trap) → IsNext p old i → IsPlain i → Executes (routine_in p old.routine) t.objects.sizes.items i old.store s (Err tr) → EndsAs (Trapped tr)
-  plain_ends i s tr next is done = record { by = λ input output. ap run_of (plain_trap no_log p t tabled old sound i s tr input output tt next is done) }
+  plain_ends i s tr next is done = ends_by _ (λ input output calls. plain_trap add_call p t tabled old sound i s tr input output calls next is done)
 
   pub call_ends : (dest : Option ℕ) (q count : ℕ) (args : List ℕ) → IsNext p old (Call dest q count args) → old.turns ≡ 0 → EndsAs OutOfTurns
-  call_ends dest q count args next none = record { by = λ input output. ap run_of (call_over no_log p t tabled old sound dest q count args input output tt next none) }
+  call_ends dest q count args next none = ends_by _ (λ input output calls. call_over add_call p t tabled old sound dest q count args input output calls next none)
 
   pub call_moves : (dest : Option ℕ) (q count : ℕ) (args : List ℕ) (callee : ℕ) (s : Store) (stack : Vec Suspended Global) (vs : List ℕ) → IsNext p old (Call dest q count args) → 0 < old.turns
       → IsRegIfSome (routine_in p old.routine).regs dest → routine_at p.routines q ≡ Some (routine_in p callee) → callee < length p.routines → 0 < length (routine_in p callee).blocks → blocks_size (routine_in p callee).blocks ≤ 2 ^ 16
       → vs ≡ each (frame_in old.store (routine_in p old.routine)).regs args → length vs ≤ (routine_in p callee).regs → Enters old.store s vs (routine_in p callee).regs (sum (routine_in p callee).arrays)
-      → stack.items ≡ old.stack.items ++ waiting {S = Unit {0}} no_log p t tabled old sound dest q count args ∷ []
-      → Moved p t old (record { store = s; routine = callee; block = 0; instr = 0; stack = stack; turns = old.turns - 1 }) move.Next
+      → stack.items ≡ old.stack.items ++ waiting {S = List MadeCall} add_call p t tabled old sound dest q count args ∷ []
+      → Moved p t old (record { store = s; routine = callee; block = 0; instr = 0; stack = stack; turns = old.turns - 1 }) move.Called
   call_moves dest q count args callee s stack vs next some isdest found lt blocks few isv fit enters stacks = record {
-    sound = call_sound {S = Unit {0}} no_log p t tabled old sound dest q count args callee s stack vs next isdest lt blocks fit enters stacks;
+    sound = call_sound {S = List MadeCall} add_call p t tabled old sound dest q count args callee s stack vs next isdest lt blocks fit enters stacks;
     less = omega (
       arith,
       next_work (Call dest q count args) next,
       work_whole (routine_in p callee) 0,
       ap (λ (zs : List Suspended). sum_by (λ (y : Suspended). work (routine_in p y.routine) y.block y.instr) zs) stacks,
-      sum_by_push (λ (y : Suspended). work (routine_in p y.routine) y.block y.instr) old.stack.items (waiting {S = Unit {0}} no_log p t tabled old sound dest q count args),
+      sum_by_push (λ (y : Suspended). work (routine_in p y.routine) y.block y.instr) old.stack.items (waiting {S = List MadeCall} add_call p t tabled old sound dest q count args),
     );
-    same = λ input output. call_left {S = Unit {0}} no_log p t tabled old sound dest q count args callee s stack vs input output tt next some found isv fit enters stacks;
+    called = record {
+      others = old.stack.items;
+      caller = waiting {S = List MadeCall} add_call p t tabled old sound dest q count args;
+      last = stacks;
+      instr = old.instr;
+      before = refl;
+      at = record { in_program = sound.place.in_program; in_routine = sound.place.in_routine; in_block = next.within; call = Call dest q count args; is = next.is; one = refl };
+    };
+    same = λ input output calls. call_left {S = List MadeCall} add_call p t tabled old sound dest q count args callee s stack vs input output calls next some found isv fit enters stacks
+        ∙ ap (λ (k : ℕ). to_come p t (record { store = s; routine = callee; block = 0; instr = 0; stack = stack; turns = old.turns - 1 }) input output (record { caller = (routine_in p old.routine).pid; site = site_at (routine_in p old.routine) old.block old.instr; callee = k } ∷ calls)) (sym (found_number (λ (r : RoutineParts). r.pid) q p.routines (routine_in p callee) found));
   }
 
   AtEndHere : End → Type 0
-  AtEndHere e = AtEnd {S = Unit {0}} no_log p t tabled old sound e
+  AtEndHere e = AtEnd {S = List MadeCall} add_call p t tabled old sound e
 
   later_place : (u : ℕ) → u < length (routine_in p old.routine).blocks → IsPlace p old.routine u 0
   later_place u lt = record { in_program = sound.place.in_program; in_routine = lt; in_block = omega arith }
 
-  jumped : (u : ℕ) → old.block < u → u < length (routine_in p old.routine).blocks → ((input output : List ℕ) → to_come p t old input output ≡ to_come p t (record old { block = u; instr = 0 }) input output) → Moved p t old (record old { block = u; instr = 0 }) move.Next
+  jumped : (u : ℕ) → old.block < u → u < length (routine_in p old.routine).blocks → ((input output : List ℕ) (calls : List MadeCall) → to_come p t old input output calls ≡ to_come p t (record old { block = u; instr = 0 }) input output calls) → Moved p t old (record old { block = u; instr = 0 }) move.Next
   jumped u less lt same = record {
-    sound = moved_sound {S = Unit {0}} no_log p t tabled old sound old.store same_below u 0 old.turns (later_place u lt);
+    sound = moved_sound {S = List MadeCall} add_call p t tabled old sound old.store same_below u 0 old.turns (later_place u lt);
     less = omega (arith, work_later (routine_in p old.routine) old.block old.instr u sound.place.in_routine sound.place.in_block less);
     same = same;
   }
 
-  pub jump_moves : (u : ℕ) → AtEnd {S = Unit {0}} no_log p t tabled old sound (ends.Jump u) → old.block < u → u < length (routine_in p old.routine).blocks → Moved p t old (record old { block = u; instr = 0 }) move.Next
-  jump_moves u here less lt = jumped u less lt (λ input output. jump_left no_log p t tabled old sound u input output tt here less)
+  pub jump_moves : (u : ℕ) → AtEnd {S = List MadeCall} add_call p t tabled old sound (ends.Jump u) → old.block < u → u < length (routine_in p old.routine).blocks → Moved p t old (record old { block = u; instr = 0 }) move.Next
+  jump_moves u here less lt = jumped u less lt (λ input output calls. jump_left add_call p t tabled old sound u input output calls here less)
 
-  pub branch_moves : (x u v c : ℕ) → AtEnd {S = Unit {0}} no_log p t tabled old sound (ends.Branch x u v) → x < (routine_in p old.routine).regs → c ≡ slice_index old.store.regs.items (old.store.at_regs + x) → 0 < c
+  pub branch_moves : (x u v c : ℕ) → AtEnd {S = List MadeCall} add_call p t tabled old sound (ends.Branch x u v) → x < (routine_in p old.routine).regs → c ≡ slice_index old.store.regs.items (old.store.at_regs + x) → 0 < c
       → old.block < u → u < length (routine_in p old.routine).blocks → Moved p t old (record old { block = u; instr = 0 }) move.Next
-  branch_moves x u v c here ltx is some less lt = jumped u less lt (λ input output. branch_left no_log p t tabled old sound x u v c input output tt here ltx is some less)
+  branch_moves x u v c here ltx is some less lt = jumped u less lt (λ input output calls. branch_left add_call p t tabled old sound x u v c input output calls here ltx is some less)
 
-  pub branch_falls : (x u v c : ℕ) → AtEnd {S = Unit {0}} no_log p t tabled old sound (ends.Branch x u v) → x < (routine_in p old.routine).regs → c ≡ slice_index old.store.regs.items (old.store.at_regs + x) → c ≡ 0
+  pub branch_falls : (x u v c : ℕ) → AtEnd {S = List MadeCall} add_call p t tabled old sound (ends.Branch x u v) → x < (routine_in p old.routine).regs → c ≡ slice_index old.store.regs.items (old.store.at_regs + x) → c ≡ 0
       → old.block < v → v < length (routine_in p old.routine).blocks → Moved p t old (record old { block = v; instr = 0 }) move.Next
-  branch_falls x u v c here ltx is none less lt = jumped v less lt (λ input output. branch_zero no_log p t tabled old sound x u v c input output tt here ltx is none less)
+  branch_falls x u v c here ltx is none less lt = jumped v less lt (λ input output calls. branch_zero add_call p t tabled old sound x u v c input output calls here ltx is none less)
 
-  pub loop_moves : (u : ℕ) → AtEnd {S = Unit {0}} no_log p t tabled old sound (ends.Loop u) → 0 < old.turns → u < length (routine_in p old.routine).blocks → blocks_size (routine_in p old.routine).blocks ≤ 2 ^ 16
+  pub loop_moves : (u : ℕ) → AtEnd {S = List MadeCall} add_call p t tabled old sound (ends.Loop u) → 0 < old.turns → u < length (routine_in p old.routine).blocks → blocks_size (routine_in p old.routine).blocks ≤ 2 ^ 16
       → Moved p t old (record old { block = u; instr = 0; turns = old.turns - 1 }) move.Next
   loop_moves u here some lt few = record {
-    sound = moved_sound {S = Unit {0}} no_log p t tabled old sound old.store same_below u 0 (old.turns - 1) (later_place u lt);
+    sound = moved_sound {S = List MadeCall} add_call p t tabled old sound old.store same_below u 0 (old.turns - 1) (later_place u lt);
     less = omega (arith, work_whole (routine_in p old.routine) u);
-    same = λ input output. loop_left no_log p t tabled old sound u input output tt here some;
+    same = λ input output calls. loop_left add_call p t tabled old sound u input output calls here some;
   }
 
-  pub loop_ends : (u : ℕ) → AtEnd {S = Unit {0}} no_log p t tabled old sound (ends.Loop u) → old.turns ≡ 0 → EndsAs OutOfTurns
-  loop_ends u here none = record { by = λ input output. ap run_of (loop_over no_log p t tabled old sound u input output tt here none) }
+  pub loop_ends : (u : ℕ) → AtEnd {S = List MadeCall} add_call p t tabled old sound (ends.Loop u) → old.turns ≡ 0 → EndsAs OutOfTurns
+  loop_ends u here none = ends_by _ (λ input output calls. loop_over add_call p t tabled old sound u input output calls here none)
 
-  pub exit_ends : (x c : ℕ) → AtEnd {S = Unit {0}} no_log p t tabled old sound (ends.Exit x) → x < (routine_in p old.routine).regs → c ≡ slice_index old.store.regs.items (old.store.at_regs + x) → EndsAs (Exit c)
-  exit_ends x c here lt is = record { by = λ input output. ap run_of (exit_left no_log p t tabled old sound x c input output tt here lt is) }
+  pub exit_ends : (x c : ℕ) → AtEnd {S = List MadeCall} add_call p t tabled old sound (ends.Exit x) → x < (routine_in p old.routine).regs → c ≡ slice_index old.store.regs.items (old.store.at_regs + x) → EndsAs (Exit c)
+  exit_ends x c here lt is = ends_by _ (λ input output calls. exit_left add_call p t tabled old sound x c input output calls here lt is)
 
   -- what a return leads to: the waiting calls go on with the value
-  return_run : (x : Option ℕ) (v : ℕ) (input output : List ℕ) → AtEnd {S = Unit {0}} no_log p t tabled old sound (ends.Return x) → v ≡ returned (frame_in old.store (routine_in p old.routine)) x
-      → to_come p t old input output ≡ resume no_log p old.store.regs.items old.store.elements.items old.stack.items (Returns v (world_in no_log p t old input output tt))
-  return_run x v input output here is =
-      let w : World (Unit {0}) = world_in no_log p t old input output tt in
-      ap (λ (o : Outcome (Unit {0})). resume no_log p old.store.regs.items old.store.elements.items old.stack.items o)
-      (end_run no_log p t tabled old sound (ends.Return x) w here.0 here.1 ∙ ap (λ (k : ℕ). Returns k w) (sym is))
+  return_run : (x : Option ℕ) (v : ℕ) (input output : List ℕ) (calls : List MadeCall) → AtEnd {S = List MadeCall} add_call p t tabled old sound (ends.Return x) → v ≡ returned (frame_in old.store (routine_in p old.routine)) x
+      → to_come p t old input output calls ≡ resume add_call p old.store.regs.items old.store.elements.items old.stack.items (Returns v (world_in add_call p t old input output calls))
+  return_run x v input output calls here is =
+      let w : World (List MadeCall) = world_in add_call p t old input output calls in
+      ap (λ (o : Outcome (List MadeCall)). resume add_call p old.store.regs.items old.store.elements.items old.stack.items o)
+      (end_run add_call p t tabled old sound (ends.Return x) w here.0 here.1 ∙ ap (λ (k : ℕ). Returns k w) (sym is))
 
-  pub return_ends : (x : Option ℕ) (v : ℕ) → AtEnd {S = Unit {0}} no_log p t tabled old sound (ends.Return x) → v ≡ returned (frame_in old.store (routine_in p old.routine)) x → old.stack.items ≡ [] → EndsAs (Exit v)
-  return_ends x v here is none = record { by = λ input output. ap run_of (return_run x v input output here is ∙ ap (λ (zs : List Suspended). resume no_log p old.store.regs.items old.store.elements.items zs (Returns v (world_in no_log p t old input output tt))) none) }
+  pub return_ends : (x : Option ℕ) (v : ℕ) → AtEnd {S = List MadeCall} add_call p t tabled old sound (ends.Return x) → v ≡ returned (frame_in old.store (routine_in p old.routine)) x → old.stack.items ≡ [] → EndsAs (Exit v)
+  return_ends x v here is none = record {
+    by = λ input output calls.
+        let e = return_run x v input output calls here is ∙ ap (λ (zs : List Suspended). resume add_call p old.store.regs.items old.store.elements.items zs (Returns v (world_in add_call p t old input output calls))) none in
+        record { run = ap run_of e; made = ap (log_of []) e };
+  }
 
-  pub return_moves : (x : Option ℕ) (v : ℕ) (rest : List Suspended) (y : Suspended) (s1 s2 : Store) (stack : Vec Suspended Global) → AtEnd {S = Unit {0}} no_log p t tabled old sound (ends.Return x) → v ≡ returned (frame_in old.store (routine_in p old.routine)) x
+  pub return_moves : (x : Option ℕ) (v : ℕ) (rest : List Suspended) (y : Suspended) (s1 s2 : Store) (stack : Vec Suspended Global) → AtEnd {S = List MadeCall} add_call p t tabled old sound (ends.Return x) → v ≡ returned (frame_in old.store (routine_in p old.routine)) x
       → old.stack.items ≡ rest ++ y ∷ [] → Leaves old.store s1 y.at_regs y.at_elements → Receives s1 s2 y.dest v → stack.items ≡ rest
       → Moved p t old (record { store = s2; routine = y.routine; block = y.block; instr = y.instr; stack = stack; turns = old.turns }) move.Next
   return_moves x v rest y s1 s2 stack here is isy leaves got stacks =
-      let m = left_call {S = Unit {0}} no_log p t tabled old sound rest y stack isy stacks s1 leaves in
-      let msound = left_sound {S = Unit {0}} no_log p t tabled old sound rest y stack isy stacks s1 leaves in
-      let isdest = left_dest {S = Unit {0}} no_log p t tabled old sound rest y stack isy stacks s1 leaves in
+      let m = left_call {S = List MadeCall} add_call p t tabled old sound rest y stack isy stacks s1 leaves in
+      let msound = left_sound {S = List MadeCall} add_call p t tabled old sound rest y stack isy stacks s1 leaves in
+      let isdest = left_dest {S = List MadeCall} add_call p t tabled old sound rest y stack isy stacks s1 leaves in
       let some = work_some (routine_in p old.routine) old.block old.instr sound.place.in_routine sound.place.in_block in
       record {
-        sound = receive_sound {S = Unit {0}} no_log p t tabled m msound y.dest s2 v isdest got;
+        sound = receive_sound {S = List MadeCall} add_call p t tabled m msound y.dest s2 v isdest got;
         less = omega (
           arith,
           some,
@@ -169,9 +185,9 @@ module _ (p : IlProgram) (t : Tables) (tabled : IsTabled p t) (old : Machine) (s
           ap (λ (zs : List Suspended). sum_by (λ (z : Suspended). work (routine_in p z.routine) z.block z.instr) zs) isy,
           sum_by_push (λ (z : Suspended). work (routine_in p z.routine) z.block z.instr) rest y,
         );
-        same = λ input output. return_run x v input output here is
-            ∙ pop_left {S = Unit {0}} no_log p t tabled old sound rest y stack isy stacks s1 leaves v input output tt
-            ∙ receive_left {S = Unit {0}} no_log p t tabled m msound y.dest s2 v input output tt isdest got;
+        same = λ input output calls. return_run x v input output calls here is
+            ∙ pop_left {S = List MadeCall} add_call p t tabled old sound rest y stack isy stacks s1 leaves v input output calls
+            ∙ receive_left {S = List MadeCall} add_call p t tabled m msound y.dest s2 v input output calls isdest got;
       }
 
   waiting_fits : (regs n : ℕ) (dest : Option ℕ) (s : Store) → IsRegIfSome n dest → s.at_regs + n ≡ length s.regs.items → MatchOption dest ⊤ (λ d. s.at_regs + d < length s.regs.items)
@@ -181,8 +197,8 @@ module _ (p : IlProgram) (t : Tables) (tabled : IsTabled p t) (old : Machine) (s
   -- the register that receives is one of the waiting call's
   pub return_receives : (rest : List Suspended) (y : Suspended) (s1 : Store) (stack : Vec Suspended Global) → old.stack.items ≡ stack.items ++ y ∷ [] → Leaves old.store s1 y.at_regs y.at_elements → MatchOption y.dest ⊤ (λ d. s1.at_regs + d < length s1.regs.items)
   return_receives rest y s1 stack isy leaves =
-      let msound = left_sound {S = Unit {0}} no_log p t tabled old sound stack.items y stack isy refl s1 leaves in
-      waiting_fits 0 (routine_in p y.routine).regs y.dest s1 (left_dest {S = Unit {0}} no_log p t tabled old sound stack.items y stack isy refl s1 leaves) msound.holds.regs
+      let msound = left_sound {S = List MadeCall} add_call p t tabled old sound stack.items y stack isy refl s1 leaves in
+      waiting_fits 0 (routine_in p y.routine).regs y.dest s1 (left_dest {S = List MadeCall} add_call p t tabled old sound stack.items y stack isy refl s1 leaves) msound.holds.regs
 
 -- instructions of a valid program fit
 all_drop : {X : Type 0} (P : X → Type 0) (xs : List X) (j : ℕ) → AllByRecursion P xs → AllByRecursion P (drop j xs)

@@ -44,6 +44,14 @@ module _ {X : Type 0} (number : X → ℕ) where
         | inr ne ↦ found_all P q ys x all.1 (sym (found_there q y ys ne) ∙ e)
       ]
 
+  pub found_number : (q : ℕ) (xs : List X) (x : X) → found number q xs ≡ Some x → number x ≡ q
+  found_number q [] x e = absurd (none-some x e)
+  found_number q (y ∷ ys) x e =
+      elim (cases_eq (number y) q) [
+        | inl h ↦ (let same : y ≡ x = cc (found_here q y ys h) in subst (λ (z : X). number z ≡ q) same h)
+        | inr ne ↦ found_number q ys x (sym (found_there q y ys ne) ∙ e)
+      ]
+
   pub found_in : (q : ℕ) (xs : List X) (x : X) → found number q xs ≡ Some x → In q (map number xs)
   found_in q [] x e = none-some x e
   found_in q (y ∷ ys) x e = elim (cases_eq (number y) q) [ inl h ↦ inl (sym h) | inr ne ↦ inr (found_in q ys x (sym (found_there q y ys ne) ∙ e)) ]

@@ -1,4 +1,5 @@
 pub mod Blocks
+pub mod Counts
 pub mod Frames
 pub mod Machine
 pub mod Plain

@@ -1,5 +1,5 @@
 -- What is still to come from a running program.
-use Rattle.std.specs.Prelude.{◌≡◌, ℕ, suc, ◌+◌, ◌-◌, ◌*◌, ◌^◌, ◌<◌, ◌≤◌, ◌++◌, false, List, [], ◌∷◌, length, drop, sum, sum_by, slice_index, slice_index_or, Option, Some}
+use Rattle.std.specs.Prelude.{◌≡◌, ℕ, suc, ◌+◌, ◌-◌, ◌*◌, ◌^◌, ◌<◌, ◌≤◌, ◌++◌, false, List, [], ◌∷◌, length, take, drop, sum, sum_by, slice_index, slice_index_or, Option, Some}
 use Rattle.il_core.specs.declared.instr.Block.{Block}
 use Rattle.il_core.specs.declared.instr.Instr.{Instr}
 use Rattle.il_core.specs.declared.instr.Instr.TheVariants.{GetChar}
@@ -11,7 +11,7 @@ use Rattle.il_core.specs.Size.{blocks_size}
 use Rattle.il_core.specs.Valid.{IsRegIfSome}
 use Rattle.il_core.specs.World as world
 use Rattle.il_core.specs.World.{World, Outcome, with_return, first_byte, other_bytes}
-use Rattle.il_core.specs.Meaning.{Frame, received, returned, run_of, Recorder, no_log}
+use Rattle.il_core.specs.Meaning.{Frame, received, returned, run_of, log_of, Recorder, MadeCall, add_call, sites_in, sites_of}
 use Rattle.il_run.specs.declared.ending.Ending.{Ending}
 use Rattle.il_run.specs.declared.ending.Ending.TheVariants as ending
 use Rattle.il_run.specs.declared.layout.Layout.{Layout}
@@ -20,8 +20,8 @@ use Rattle.il_run.specs.declared.tables.Tables.{Tables}
 use Rattle.il_run.specs.declared.machine.Suspended.{Suspended}
 use Rattle.il_run.specs.declared.machine.Machine.{Machine}
 use Rattle.il_run.specs.declared.machine.Move.{Move}
-use Rattle.il_run.specs.declared.machine.Move.TheVariants.{Next, Get, Put, End}
-use Rattle.il_run.specs.Blocks.{run_from}
+use Rattle.il_run.specs.declared.machine.Move.TheVariants.{Next, Called, Get, Put, End}
+use Rattle.il_run.specs.Blocks.{run_from, sites_before}
 use Rattle.il_run.specs.Plain.{frame_in, Holds, SetsReg}
 use Rattle.il_run.specs.Words.{window, arrays_in, AreStarts}
 
@@ -106,9 +106,9 @@ module _ {S : Type 0} (note : Recorder S) (p : IlProgram) where
       resume m.store.regs.items m.store.elements.items m.stack.items
       (run_from note p (routine_in p m.routine) m.block m.instr (frame_in m.store (routine_in p m.routine)) (world_in t m input output log))
 
--- what is left, with no log
-abbrev pub to_come : IlProgram → Tables → Machine → List ℕ → List ℕ → Outcome (Unit {0})
-to_come p t m input output = left no_log p t m input output tt
+-- what is left, where these calls were made so far, the last one first
+abbrev pub to_come : IlProgram → Tables → Machine → List ℕ → List ℕ → List MadeCall → Outcome (List MadeCall)
+to_come p t m input output calls = left add_call p t m input output calls
 
 -- the instruction that comes next
 pub record IsNext (p : IlProgram) (m : Machine) (i : Instr) : Type 0 where
@@ -120,12 +120,12 @@ pub record IsNext (p : IlProgram) (m : Machine) (i : Instr) : Type 0 where
 pub record GoesOn (p : IlProgram) (t : Tables) (old new : Machine) : Type 0 where
   pub sound : IsSound p t new
   pub less : fuel p new < fuel p old
-  pub same : (input output : List ℕ) → to_come p t old input output ≡ to_come p t new input output
+  pub same : (input output : List ℕ) (calls : List MadeCall) → to_come p t old input output calls ≡ to_come p t new input output calls
 
 pub record PutsOut (p : IlProgram) (t : Tables) (old new : Machine) (b : ℕ) : Type 0 where
   pub sound : IsSound p t new
   pub less : fuel p new < fuel p old
-  pub same : (input output : List ℕ) → to_come p t old input output ≡ to_come p t new input (output ++ b ∷ [])
+  pub same : (input output : List ℕ) (calls : List MadeCall) → to_come p t old input output calls ≡ to_come p t new input (output ++ b ∷ []) calls
 
 -- the next byte is wanted for a register
 pub record WantsByte (p : IlProgram) (t : Tables) (old new : Machine) (d : ℕ) : Type 0 where
@@ -133,13 +133,52 @@ pub record WantsByte (p : IlProgram) (t : Tables) (old new : Machine) (d : ℕ) 
   pub less : fuel p new < fuel p old
   pub at : IsNext p old (GetChar d)
   pub reg : d < (routine_in p new.routine).regs
-  pub same : (input output : List ℕ) (s : Store) → SetsReg new.store s d (first_byte input) → to_come p t old input output ≡ to_come p t (record new { store = s }) (other_bytes input) output
+  pub same : (input output : List ℕ) (calls : List MadeCall) (s : Store) → SetsReg new.store s d (first_byte input) → to_come p t old input output calls ≡ to_come p t (record new { store = s }) (other_bytes input) output calls
+
+-- the number of the site that comes next
+abbrev pub site_at : RoutineParts → ℕ → ℕ → ℕ
+site_at r b j = sites_of (take j (block_in r b).instrs) + sites_before r.blocks b 0
+
+-- an instruction that is a call
+pub record IsSite (p : IlProgram) (routine block instr : ℕ) : Type 0 where
+  pub in_program : routine < length p.routines
+  pub in_routine : block < length (routine_in p routine).blocks
+  pub in_block : instr < length (block_in (routine_in p routine) block).instrs
+  pub call : Instr
+  pub is : drop instr (block_in (routine_in p routine) block).instrs ≡ call ∷ drop (suc instr) (block_in (routine_in p routine) block).instrs
+  pub one : sites_in call ≡ 1
+
+-- the current call was made by the last one that waits
+pub record IsCalled (p : IlProgram) (m : Machine) : Type 0 where
+  pub others : List Suspended
+  pub caller : Suspended
+  pub last : m.stack.items ≡ others ++ caller ∷ []
+  pub instr : ℕ
+  pub before : caller.instr ≡ instr + 1
+  pub at : IsSite p caller.routine caller.block instr
+
+-- that call
+abbrev pub call_into : (p : IlProgram) (m : Machine) → IsCalled p m → MadeCall
+call_into p m c = record { caller = (routine_in p c.caller.routine).pid; site = site_at (routine_in p c.caller.routine) c.caller.block c.instr; callee = (routine_in p m.routine).pid }
+
+-- a call was made
+pub record Calls (p : IlProgram) (t : Tables) (old new : Machine) : Type 0 where
+  pub sound : IsSound p t new
+  pub less : fuel p new < fuel p old
+  pub called : IsCalled p new
+  pub same : (input output : List ℕ) (calls : List MadeCall) → to_come p t old input output calls ≡ to_come p t new input output (call_into p new called ∷ calls)
+
+-- the program ended so, with this output and these calls
+pub record Over (e : world.Ending) (output : List ℕ) (calls : List MadeCall) (o : Outcome (List MadeCall)) : Type 0 where
+  pub run : run_of o ≡ Some (record { output = output; ending = e })
+  pub made : log_of [] o ≡ calls
 
 abbrev pub Moved : IlProgram → Tables → Machine → Machine → Move → Type 0
 Moved p t old new Next = GoesOn p t old new
+Moved p t old new Called = Calls p t old new
 Moved p t old new (Get d) = WantsByte p t old new d
 Moved p t old new (Put b) = PutsOut p t old new b
-Moved p t old new (End e) = (input output : List ℕ) → run_of (to_come p t old input output) ≡ Some (record { output = output; ending = ending_of e })
+Moved p t old new (End e) = (input output : List ℕ) (calls : List MadeCall) → Over (ending_of e) output calls (to_come p t old input output calls)
 
 -- a return of this value comes next
 pub record Returning (p : IlProgram) (m : Machine) (v : ℕ) : Type 0 where

@@ -1,19 +1,23 @@
 -- What a run promises.
-use Rattle.std.specs.Prelude.{◌≡◌, ℕ, ◌<◌, ◌++◌, List, Option, Some, None, ⊤, [], Bool, false}
+use Rattle.std.specs.Prelude.{◌≡◌, ℕ, ◌+◌, ◌<◌, ◌++◌, ◌⊎◌, List, Option, Some, None, ⊤, [], ◌∷◌, take, Bool, false}
 use Rattle.std.specs.Io.KnownBytes.{Appends, Consumes, Keeps}
 use Rattle.outside.specs.Faults.{Rose}
 use Rattle.il_core.specs.declared.program.IlProgram.{IlProgram}
 use Rattle.il_core.specs.declared.instr.Instr.TheVariants.{GetChar}
 use Rattle.il_core.specs.Program.{main_pid}
-use Rattle.il_core.specs.Meaning.{Run, il_run, run_of, act, at_start}
+use Rattle.il_core.specs.Meaning.{Run, il_run, MadeCall, add_call, calls_made, act_noting, at_start}
 use Rattle.il_run.specs.declared.input.Ahead.{Ahead}
 use Rattle.il_run.specs.declared.ending.Ending.{Ending}
 use Rattle.il_run.specs.declared.ending.RunFault.{RunFault}
 use Rattle.il_run.specs.declared.ending.RunFault.TheVariants as fault
 use Rattle.il_run.specs.declared.machine.Machine.{Machine}
 use Rattle.il_run.specs.declared.tables.Tables.{Tables}
-use Rattle.il_run.specs.Streams.{FailsAt, GainsFront}
-use Rattle.il_run.specs.Machine.{ending_of, IsNext, IsSound, IsTabled, fuel, to_come}
+use Rattle.il_run.specs.Counts.{CountsMore, counts_of}
+use Rattle.il_run.specs.Streams.{AsksOnce, FailsAt, GainsFront}
+use Rattle.il_run.specs.declared.counter.Counter.{Counter}
+use Rattle.outside.specs.Asks.{bytes_given}
+use Rattle.outside.specs.declared.source.Ask.{Ask}
+use Rattle.il_run.specs.Machine.{ending_of, IsNext, IsSound, IsTabled, Over, fuel, to_come}
 
 -- of told bytes; nothing where none are told
 abbrev pub IfTold : Option (List ℕ) → (List ℕ → Type 0) → Type 0
@@ -38,30 +42,32 @@ HasReason fault.Input input input_now output output_now = Rose input input_now
 HasReason fault.Output input input_now output output_now = Rose output output_now
 HasReason fault.Memory input input_now output output_now = ⊤
 
--- one step of a machine whose known input is left, and what it puts out
-pub record Goes (p : IlProgram) (t : Tables) (old new : Machine) (known put put_now : Option (List ℕ)) (rest : List ℕ) : Type 0 where
+-- one step of a machine whose known input is left, what it puts out, and the calls that it makes
+pub record Goes (p : IlProgram) (t : Tables) (old new : Machine) (made : List MadeCall) (known put put_now : Option (List ℕ)) (rest : List ℕ) : Type 0 where
   pub left : List ℕ
   pub out : List ℕ
   pub is_left : known ≡ Some left
   pub is_out : Appends put put_now out
-  pub same : (output : List ℕ) → to_come p t old rest output ≡ to_come p t new left (output ++ out)
+  pub same : (output : List ℕ) (calls : List MadeCall) → to_come p t old rest output calls ≡ to_come p t new left (output ++ out) (made ++ calls)
 
 -- some bytes are used in a step, and the step is the same whatever input follows them
-pub record Uses (p : IlProgram) (t : Tables) (old new : Machine) (known known_now : Option (List ℕ)) : Type 0 where
+pub record Uses (p : IlProgram) (t : Tables) (old new : Machine) (made : List MadeCall) (known known_now : Option (List ℕ)) : Type 0 where
   pub bytes : List ℕ
   pub out : List ℕ
   pub consumed : Consumes known known_now bytes
-  pub alike : (more output : List ℕ) → to_come p t old (bytes ++ more) output ≡ to_come p t new more (output ++ out)
+  pub alike : (more output : List ℕ) (calls : List MadeCall) → to_come p t old (bytes ++ more) output calls ≡ to_come p t new more (output ++ out) (made ++ calls)
 
-pub record Round (p : IlProgram) (t : Tables) (old new : Machine) (known known_now put put_now : Option (List ℕ)) (ended : Bool) : Type 0 where
+pub record Round (p : IlProgram) (t : Tables) (old new : Machine) (counter counter_now : Option Counter) (known known_now put put_now : Option (List ℕ)) (ended : Bool) : Type 0 where
   pub sound : IsSound p t new
   pub less : fuel p new < fuel p old
-  pub goes : (rest : List ℕ) → known ≡ Some rest → Goes p t old new known_now put put_now rest
-  pub uses : ended ≡ false → Uses p t old new known known_now
+  pub made : List MadeCall
+  pub counted : CountsMore p counter counter_now made
+  pub goes : (rest : List ℕ) → known ≡ Some rest → Goes p t old new made known_now put put_now rest
+  pub uses : ended ≡ false → Uses p t old new made known known_now
 
 -- the program ended in this step, and the sink took what waited
 pub record LastRound (p : IlProgram) (t : Tables) (old : Machine) (e : Ending) (taken taken_now : Option (List ℕ)) (waiting : List ℕ) : Type 0 where
-  pub run : (rest output : List ℕ) → run_of (to_come p t old rest output) ≡ Some (record { output = output; ending = ending_of e })
+  pub run : (rest output : List ℕ) (calls : List MadeCall) → Over (ending_of e) output calls (to_come p t old rest output calls)
   pub took : Appends taken taken_now waiting
 
 -- The program wants a byte after these: with any further input behind them it stands, at the same place, at a
@@ -73,8 +79,9 @@ pub record Wants (p : IlProgram) (turns : ℕ) (used : List ℕ) : Type 0 where
   pub sound : IsSound p tables machine
   pub register : ℕ
   pub output : List ℕ
+  pub calls : List MadeCall
   pub next : IsNext p machine (GetChar register)
-  pub alike : (more : List ℕ) → act p (main_pid p.shapes) [] (at_start tt p (used ++ more) turns) ≡ to_come p tables machine more output
+  pub alike : (more : List ℕ) → act_noting add_call p (main_pid p.shapes) [] (at_start [] p (used ++ more) turns) ≡ to_come p tables machine more output calls
 
 -- of told bytes some were taken, after which the program wants one more, and the rest is left
 pub record AsksFor (p : IlProgram) (turns : ℕ) (left : Option (List ℕ)) (bytes : List ℕ) : Type 0 where
@@ -90,3 +97,30 @@ pub record FailedAsk (p : IlProgram) (m : Machine) (old new : Ahead) (known know
   pub next : IsNext p m (GetChar register)
   pub at : FailsAt old new
   pub kept : Keeps known known_now
+
+-- where calls are counted, the counts are those of the calls that the program makes on these bytes
+abbrev pub AreCounted : IlProgram → ℕ → Option Counter → List ℕ → Type 0
+AreCounted p turns None bytes = ⊤
+AreCounted p turns (Some c) bytes = c.counts ≡ counts_of p (calls_made p bytes turns)
+
+-- each of some calls of the source came where the program wants a byte after those that were given before that call
+-- in this run, n before the first one
+abbrev pub AreWanted : IlProgram → ℕ → List ℕ → ℕ → List Ask → Type 0
+AreWanted p turns bytes n [] = ⊤
+AreWanted p turns bytes n (ask ∷ asks) = Wants p turns (take n bytes) × AreWanted p turns bytes (n + bytes_given ask.gave) asks
+
+-- the same of the calls that came since
+pub record AsksWanted (p : IlProgram) (turns : ℕ) (old new : List Ask) (bytes : List ℕ) : Type 0 where
+  pub added : List Ask
+  pub grew : new ≡ old ++ added
+  pub wanted : AreWanted p turns bytes 0 added
+
+abbrev pub AsksWhereWanted : IlProgram → ℕ → Option (List Ask) → Option (List Ask) → List ℕ → Type 0
+AsksWhereWanted p turns None new bytes = ⊤
+AsksWhereWanted p turns (Some old) None bytes = ⊥
+AsksWhereWanted p turns (Some old) (Some new) bytes = AsksWanted p turns old new bytes
+
+-- a step calls the source at most once, at a `getchar` for which no byte is ahead
+abbrev pub AsksAtGet : IlProgram → Machine → Ahead → Option (List ℕ) → Option (List ℕ) → Option (List Ask) → Option (List Ask) → Type 0
+AsksAtGet p m ahead left left_now asks asks_now =
+    ((left_now ≡ left) × (asks_now ≡ asks)) ⊎ (((register : ℕ) × IsNext p m (GetChar register)) × AsksOnce ahead left left_now asks asks_now)

@@ -4,7 +4,7 @@ use Rattle.hlo_num.specs.declared.word.Word.{Word}
 use Rattle.il_core.specs.declared.program.IlProgram.{IlProgram}
 use Rattle.il_core.specs.Object.{ObjectParts}
 use Rattle.il_core.specs.Program.{object_at, word_at_start, main_pid}
-use Rattle.il_core.specs.Meaning.{act, at_start}
+use Rattle.il_core.specs.Meaning.{add_call, act_noting, at_start}
 use Rattle.il_run.specs.declared.machine.Machine.{Machine}
 use Rattle.il_run.specs.declared.tables.Tables.{Tables}
 use Rattle.il_run.specs.Machine.{IsSound, to_come}
@@ -24,4 +24,4 @@ pub record HasWords (os : List ObjectParts) (sizes : List ℕ) (i : ℕ) (words 
 -- what is to come is the call of `main`
 pub record Starts (p : IlProgram) (t : Tables) (turns : ℕ) (m : Machine) : Type 0 where
   pub sound : IsSound p t m
-  pub same : (input : List ℕ) → to_come p t m input [] ≡ act p (main_pid p.shapes) [] (at_start tt p input turns)
+  pub same : (input : List ℕ) → to_come p t m input [] [] ≡ act_noting add_call p (main_pid p.shapes) [] (at_start [] p input turns)

@@ -1,5 +1,5 @@
 -- The input and the output of a run, some bytes of which are kept on the way.
-use Rattle.std.specs.Prelude.{◌≡◌, ◌<◌, ◌++◌, ℕ, Bool, false, ◌≤◌, List, [], ◌∷◌, length, take, drop, Option, Result, MatchResult, MatchOption, ⊤, Some, None}
+use Rattle.std.specs.Prelude.{◌≡◌, ◌<◌, ◌++◌, ◌⊎◌, ℕ, Bool, false, ◌≤◌, List, [], ◌∷◌, length, take, drop, Option, Result, MatchResult, MatchOption, ⊤, Some, None}
 use Rattle.std.specs.Io.KnownBytes.{Appends, Consumes, IsAtEnd, Keeps}
 use Rattle.std.specs.List.{AllByRecursion}
 use Rattle.outside.specs.Asks.{bytes_given}
@@ -66,6 +66,30 @@ abbrev pub AsksSo : Option (List Ask) → Option (List Ask) → Bool → Type 0
 AsksSo None new ended = ⊤
 AsksSo (Some old) None ended = ⊥
 AsksSo (Some old) (Some new) ended = Asking old new ended
+
+-- a call of the source that gave so many bytes was noted, where calls are told
+abbrev pub NotesGiven : Option (List Ask) → Option (List Ask) → ℕ → Type 0
+NotesGiven None asks n = ⊤
+NotesGiven (Some old) None n = ⊥
+NotesGiven (Some old) (Some new) n = (ask : Ask) × (new ≡ old ++ ask ∷ []) × (bytes_given ask.gave ≡ n)
+
+-- so many bytes are gone, where bytes are told
+abbrev pub IsGiven : Option (List ℕ) → Option (List ℕ) → ℕ → Type 0
+IsGiven None left n = ⊤
+IsGiven (Some old) None n = ⊥
+IsGiven (Some old) (Some new) n = (n ≤ length old) × (new ≡ drop n old)
+
+-- the source was called once, where no byte was ahead and the end wasn't met
+pub record AsksOnce (ahead : Ahead) (left left_now : Option (List ℕ)) (asks asks_now : Option (List Ask)) : Type 0 where
+  pub empty : ahead.next ≡ ahead.end
+  pub open_yet : ahead.ended ≡ false
+  pub count : ℕ
+  pub noted : NotesGiven asks asks_now count
+  pub given : IsGiven left left_now count
+
+-- the source was called so once or not at all
+abbrev pub AsksOnceAtMost : Ahead → Option (List ℕ) → Option (List ℕ) → Option (List Ask) → Option (List Ask) → Type 0
+AsksOnceAtMost ahead left left_now asks asks_now = ((left_now ≡ left) × (asks_now ≡ asks)) ⊎ AsksOnce ahead left left_now asks asks_now
 
 -- a call of the source failed: no byte was ahead, and the end wasn't met
 pub record FailsAt (old new : Ahead) : Type 0 where

@@ -2,7 +2,7 @@
 ghost use Rattle.std.specs.Prelude.{◌≡◌, ◌<◌, ◌≤◌, ◌∷◌, [], ⊤, IfOk, List, MatchBool, MatchOption, MatchResult, OnErr, Option, true, false};
 ghost use Rattle.std.specs.Io.KnownBytes.{IsAtEnd, Keeps, prepend_known};
 ghost use Rattle.outside.specs.Faults.{HasCause};
-ghost use Rattle.il_run.specs.Streams.{AsksInTurn, AsksSo, FailsAt, GivesNext, IsAhead, ahead};
+ghost use Rattle.il_run.specs.Streams.{AsksInTurn, AsksOnce, AsksOnceAtMost, AsksSo, FailsAt, GivesNext, IsAhead, ahead};
 ghost use Rattle.outside.specs.declared.source.Ask.{Ask};
 
 use outside::{Failed, Source};
@@ -46,6 +46,7 @@ impl Ahead {
         ensures shut { self.old.ended ≡ true → self.new.ended ≡ true }
         ensures end { IfOk result (λ o. MatchOption o (self.new.ended ≡ true) (λ b. ⊤)) }
         ensures failed { OnErr result (FailsAt self.old self.new) }
+        ensures asked { AsksOnceAtMost self.old (I.left input.old) (I.left input.new) (I.asks input.old) (I.asks input.new) }
         ensures gives { GivesNext (prepend_known (ahead self.old) (I.left input.old)) (prepend_known (ahead self.new) (I.left input.new)) result }
         ensures asks { (start : Option (List Ask)) → AsksSo start (I.asks input.old) self.old.ended → MatchResult result (λ _. AsksSo start (I.asks input.new) self.new.ended) (λ _. AsksInTurn start (I.asks input.new)) }
         ensures cause { HasCause (I.faults input.old) (I.faults input.new) result }
@@ -87,6 +88,7 @@ impl Ahead {
         ensures end { IfOk result (λ more. more ≡ false → IsAtEnd (I.left input.new)) }
         ensures met { IfOk result (λ more. more ≡ false → self.new.ended ≡ true) }
         ensures failed { OnErr result (FailsAt self.old self.new) }
+        ensures asked { AsksOnce self.old (I.left input.old) (I.left input.new) (I.asks input.old) (I.asks input.new) }
         ensures known { Keeps (prepend_known (ahead self.old) (I.left input.old)) (prepend_known (ahead self.new) (I.left input.new)) }
         ensures asks { (start : Option (List Ask)) → AsksSo start (I.asks input.old) false → MatchResult result (λ _. AsksSo start (I.asks input.new) self.new.ended) (λ _. AsksInTurn start (I.asks input.new)) }
         ensures cause { HasCause (I.faults input.old) (I.faults input.new) result }

@@ -43,6 +43,8 @@ pub struct Machine {
 pub enum Move {
     /// Nothing.
     Next,
+    /// Nothing, and a call was made: the last one that waits made it.
+    Called,
     /// A register gets the next byte of the input, or 4294967295 at its end.
     Get(u32),
     /// A byte is put out.
@@ -201,7 +203,7 @@ impl Machine {
         self.block = 0;
         self.instr = 0;
         self.turns -= 1;
-        Ok(Move::Next)
+        Ok(Move::Called)
     }
 
     /// The end of a block.

@@ -1,6 +1,7 @@
 -- A table that has taken in a use, a declaration or a definition keeps its numbers.
-use Rattle.std.proofs.Common.{◌≡◌, ℕ, ◌+◌, ◌≤◌, ◌==◌, Bool, true, false, if◌then◌else◌, min, List, [], ◌∷◌, ◌++◌, length, Some, None, refl, sym, ap, ◌∙◌, arith}
-use Rattle.std.specs.List.{list_any}
+use Rattle.std.proofs.Common.{◌≡◌, ℕ, ◌+◌, ◌≤◌, ◌==◌, Bool, true, false, if◌then◌else◌, min, List, [], ◌∷◌, ◌++◌, length, take, zero, suc, Some, None, refl, sym, ap, ◌∙◌, arith}
+use Rattle.std.proofs.lemmas.List.{length-take}
+use Rattle.std.specs.List.{AllByRecursion, list_any, slice_get, slice_set}
 use Rattle.std.specs.Map.{values_of}
 use Rattle.hlo_num.specs.declared.word.Word.{Word}
 use Rattle.indexmap.specs.Layout.{set_value_at, length-set_value_at}
@@ -10,7 +11,7 @@ use Rattle.sym_tables.specs.declared.symbol.Symbol.{Symbol}
 use Rattle.sym_tables.specs.Entities.{compatible, words}
 use Rattle.sym_tables.specs.Sound.{IsKept, FitsWords}
 use Rattle.sym_tables.specs.Symbols.{met, is_open, routine_part, element_part}
-use Rattle.sym_tables.specs.Table.{Table, symbol_at, is_past_limits, is_wide}
+use Rattle.sym_tables.specs.Table.{Table, given, symbol_at, is_past_limits, is_wide}
 use Rattle.sym_tables.proofs.Least.{least_used, least_met, least_added}
 use Rattle.sym_tables.proofs.Limits.{within, not_past}
 use Rattle.sym_tables.proofs.Lists.{any_none, any_set, all_at, values_set, length_values}
@@ -32,6 +33,27 @@ kept_used syms pid r e least n s b kept k is now =
       narrow = ap (list_any is_wide) (values_set syms pid v) ∙ any_set is_wide (values_of syms) pid v w.narrow (any_none is_wide (values_of syms) pid s w.narrow k);
     }))
     refl refl (least_used (values_of syms) pid least n v kept.least_open (now ∙ ap (λ x. if x then min least pid else least) is))
+
+-- what is used and not defined stays so
+still_closed : (xs : List Symbol) (at n : ℕ) (s v : Symbol) → slice_get xs at ≡ Some s → is_open v ≡ is_open s → AllByRecursion (λ x. is_open x ≡ false) (take n xs) → AllByRecursion (λ x. is_open x ≡ false) (take n (slice_set xs at v))
+still_closed [] at n s v k same all = all
+still_closed (x ∷ xs) at zero s v k same all = tt
+still_closed (x ∷ xs) zero (suc n) s v k same all = let e : x ≡ s = (let c : Some x ≡ Some s = k in cc) in (same ∙ ap is_open (sym e) ∙ all.0, all.1)
+still_closed (x ∷ xs) (suc at) (suc n) s v k same all = (all.0, still_closed xs at n s v k same all.1)
+
+pub kept_given : (syms : Table) (pid r e least : ℕ) (s : Symbol) (init : List Word) → IsKept syms r e least → symbol_at syms pid ≡ Some s → IsKept (set_value_at syms pid (given init s)) r e least
+kept_given syms pid r e least s init kept k =
+    let v : Symbol = given init s in
+    let w = within syms kept.sound.limits in let names = w.names in let few = w.routines_few in let less = w.elements_few in
+    let a = routines_set syms pid s v k in let c = elements_set syms pid s v k in let len = length-set_value_at syms pid v in
+    kept_set syms pid s v r e r e least least kept k (let e = length-take (words s.entity) init in omega arith)
+    (not_past (set_value_at syms pid v) (record {
+      names = omega arith;
+      routines_few = omega arith;
+      elements_few = omega arith;
+      narrow = ap (list_any is_wide) (values_set syms pid v) ∙ any_set is_wide (values_of syms) pid v w.narrow (any_none is_wide (values_of syms) pid s w.narrow k);
+    }))
+    refl refl (still_closed (values_of syms) pid least s v k refl kept.least_open)
 
 pub kept_met : (standing : Standing) (said : Entity) (init : List Word) (syms : Table) (at r e least r' e' n : ℕ) (s : Symbol) (b : Bool) → IsKept syms r e least → symbol_at syms at ≡ Some s → compatible s.entity said ≡ true → length init ≤ words said →
     (let v = met standing said init (Some s) in (r' + routine_part s.entity s.standing ≡ r + routine_part v.entity v.standing) × (e' + element_part s.entity s.standing ≡ e + element_part v.entity v.standing) × (b ≡ is_open v)) →

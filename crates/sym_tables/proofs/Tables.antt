@@ -1,14 +1,15 @@
 -- A table stays sound, and its kept numbers stay true.
-use Rattle.std.proofs.Common.{◌≡◌, ℕ, zero, suc, Bor, MutBor, ◌+◌, ◌≤◌, true, false, List, [], ◌∷◌, ◌++◌, length, length-append, take, Option, Some, None, sym, ap, ◌∙◌, subst, arith, sum_by}
+use Rattle.std.proofs.Common.{◌≡◌, ℕ, zero, suc, Bor, MutBor, ◌+◌, ◌≤◌, true, false, List, [], ◌∷◌, ◌++◌, length, refl, length-append, take, Option, Some, None, sym, ap, ◌∙◌, subst, arith, sum_by}
 use Rattle.std.specs.List.{AllByRecursion, list_any, slice_get, slice_set}
 use Rattle.std.specs.Map.{values_of}
 use Rattle.indexmap.specs.Layout.{set_value_at}
+use Rattle.hlo_num.specs.declared.word.Word.{Word}
 use Rattle.sym_tables.specs.declared.symbol.Symbol.{Symbol}
 use Rattle.sym_tables.specs.Sound.{FitsWords, IsKept}
 use Rattle.sym_tables.specs.Symbols.{is_open, routine_part, element_part}
 use Rattle.std.specs.Map.Iter.{deref_pair}
 use Rattle.std.specs.Option.{option_map, option_copied_mut}
-use Rattle.sym_tables.specs.Table.{Table, mark, routines, elements, is_wide, is_past_limits, symbol_at}
+use Rattle.sym_tables.specs.Table.{Table, given, initialised, mark, routines, elements, is_wide, is_past_limits, symbol_at}
 use Rattle.sym_tables.proofs.Limits.{Within}
 use Rattle.sym_tables.proofs.Lists.{values_set, values_added, sum_set, sum_added, part_le, any_added, all_set, all_added, value_at}
 
@@ -79,6 +80,17 @@ pub mark_at : (syms : Table) (pid : ℕ) (s : Symbol) → symbol_at syms pid ≡
 mark_at [] pid s h = let o : Option Symbol = None in let c : o ≡ Some s = h in absurd cc
 mark_at (e ∷ es) zero s h = let d : e.1 ≡ s = (let c : Some e.1 ≡ Some s = h in cc) in ap (λ (x : Symbol). let v : Symbol = record x { used = true } in (e.0, v) ∷ es) (sym d)
 mark_at (e ∷ es) (suc pid) s h = ap (λ l. e ∷ l) (mark_at es pid s h)
+
+-- initial words change one symbol, and nothing past the end
+pub given_at : (syms : Table) (pid : ℕ) (s : Symbol) (init : List Word) → symbol_at syms pid ≡ Some s → set_value_at syms pid (given init s) ≡ initialised syms pid init
+given_at [] pid s init h = let o : Option Symbol = None in let c : o ≡ Some s = h in absurd cc
+given_at (e ∷ es) zero s init h = let d : e.1 ≡ s = (let c : Some e.1 ≡ Some s = h in cc) in ap (λ (x : Symbol). (e.0, given init x) ∷ es) (sym d)
+given_at (e ∷ es) (suc pid) s init h = ap (λ l. e ∷ l) (given_at es pid s init h)
+
+pub given_past : (syms : Table) (pid : ℕ) (init : List Word) → length syms ≤ pid → initialised syms pid init ≡ syms
+given_past [] pid init h = refl
+given_past (e ∷ es) zero init h = absurd (let p : length (e ∷ es) ≤ 0 = h in omega arith)
+given_past (e ∷ es) (suc pid) init h = ap (λ l. e ∷ l) (given_past es pid init (omega arith))
 
 pub known_mut : (xs : List Symbol) (at : ℕ) (r : Option (MutBor Symbol)) (x : MutBor Symbol) → option_copied_mut r ≡ slice_get xs at → r ≡ Some x → slice_get xs at ≡ Some x.now
 known_mut xs at r x e h = sym e ∙ ap option_copied_mut h

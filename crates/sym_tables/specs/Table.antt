@@ -1,6 +1,6 @@
 -- The names of the program: a list of names and what is known of them, in the order of their first mention. A name's
 -- place is its PID.
-use Rattle.std.specs.Prelude.{◌≡◌, ℕ, zero, suc, ◌^◌, Bool, true, false, ◌&&◌, ◌||◌, List, [], ◌∷◌, length, Option, Some, None, if◌then◌else◌, nat_lt, nat_eq, sum_by, position}
+use Rattle.std.specs.Prelude.{◌≡◌, ℕ, zero, suc, ◌^◌, Bool, true, false, ◌&&◌, ◌||◌, List, [], ◌∷◌, length, take, Option, Some, None, if◌then◌else◌, nat_lt, nat_eq, sum_by, position}
 use Rattle.std.specs.Cmp.Lexicographic.{pointwise}
 use Rattle.std.specs.List.{list_any, position_or_len, slice_get}
 use Rattle.std.specs.Map.{keys_of, values_of, lookup}
@@ -11,7 +11,7 @@ use Rattle.sym_tables.specs.declared.symbol.Standing.{Standing}
 use Rattle.sym_tables.specs.declared.symbol.Symbol.{Symbol}
 use Rattle.sym_tables.specs.declared.fault.SymFault.{SymFault}
 use Rattle.sym_tables.specs.declared.fault.SymFault.TheVariants.{TypeClash, Duplicate, TooMany, Memory}
-use Rattle.sym_tables.specs.Entities.{compatible, parameters}
+use Rattle.sym_tables.specs.Entities.{compatible, parameters, words}
 use Rattle.sym_tables.specs.Symbols.{met, is_defined, is_open, routine_part, element_part}
 
 -- each name with what is known of it; the place is the PID
@@ -50,6 +50,15 @@ abbrev pub mark : Table → ℕ → Table
 mark [] pid = []
 mark (e ∷ es) zero = (e.0, record e.1 { used = true }) ∷ es
 mark (e ∷ es) (suc pid) = e ∷ mark es pid
+
+-- the table after the object of a PID got its initial words, as far as it has room for them
+abbrev pub given : List Word → Symbol → Symbol
+given init s = record s { init = take (words s.entity) init }
+
+abbrev pub initialised : Table → ℕ → List Word → Table
+initialised [] pid init = []
+initialised (e ∷ es) zero init = (e.0, given init e.1) ∷ es
+initialised (e ∷ es) (suc pid) init = e ∷ initialised es pid init
 
 -- how many routines the program has, and how many array elements: each name counts once
 abbrev pub routines : Table → ℕ

@@ -1,5 +1,6 @@
 //! What is known of one name.
 ghost use Rattle.std.specs.Prelude.{◌≡◌, Some};
+ghost use Rattle.sym_tables.specs.Table.{given};
 ghost use Rattle.sym_tables.specs.Symbols.{met, later, routine_part, element_part, is_open};
 
 use crate::entity::Entity;
@@ -54,6 +55,15 @@ impl Symbol {
         if standing == Standing::Defined {
             self.init = init;
         }
+    }
+
+    /// Takes in the initial words, as far as the entity has room for them.
+    pub(crate) fn initialise(&mut self, init: Vec<Word>)
+        ensures { self.new ≡ given init.items self.old }
+    {
+        let mut init = init;
+        init.truncate(self.entity.words() as usize);
+        self.init = Seq::from_vec(init);
     }
 
     /// Whether it is used and not defined.

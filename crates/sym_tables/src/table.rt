@@ -8,7 +8,7 @@ ghost use Rattle.sym_tables.specs.Entities.{words};
 ghost use Rattle.sym_tables.specs.Listing.{objects, shapes};
 ghost use Rattle.sym_tables.specs.Sound.{IsSound};
 ghost use Rattle.sym_tables.specs.Symbols.{is_defined, met};
-ghost use Rattle.sym_tables.specs.Table.{enter, first_open, mark, pid_of, refusal_of, same_name, symbol_at, symbol_of, IsEntered, IsRefused, IsTold};
+ghost use Rattle.sym_tables.specs.Table.{enter, first_open, initialised, mark, pid_of, refusal_of, same_name, symbol_at, symbol_of, IsEntered, IsRefused, IsTold};
 
 use crate::entity::{Entity, compatible, composite};
 use crate::fault::SymFault;
@@ -202,6 +202,19 @@ impl ProgramSyms {
         let symbol = self.symbols.get_index_mut(at).unwrap();
         symbol.used = true;
         self.least = least_with(self.least, at, symbol.is_open());
+    }
+
+    /// Gives an object its initial words, as far as it has room for them: for a definition whose words are
+    /// known only after its name was entered. A PID that isn't there changes nothing. It takes constant time.
+    pub fn initialise(&mut self, pid: u32, init: Vec<Word>)
+        ensures { self.new ≡ initialised self.old pid init.items }
+    {
+        let at = pid as usize;
+        if at >= self.symbols.len() {
+            return;
+        }
+        let symbol = self.symbols.get_index_mut(at).unwrap();
+        symbol.initialise(init);
     }
 
     /// One row for each name, by PID: what it stands for. An array of unknown length has 0 words there. It

@@ -1,6 +1,6 @@
-use Rattle.std.proofs.Common.{rules, ◌≡◌, ◌∷◌, length, subst, sym, ◌∙◌, ap, arith, length-append}
+use Rattle.std.proofs.Common.{rules, ◌≡◌, length, sym, ◌∙◌, ap, arith}
 use Rattle.std.proofs.lemmas.Result.{IfOk-weaker}
-use Rattle.hlo_cmd.specs.Grammar.{IsOnlySource, HasRest, include_line}
+use Rattle.hlo_cmd.specs.Grammar.{IsOnlySource}
 use Rattle.hlo_cmd.specs.Lowering.{main_routine}
 use Rattle.hlo_cmd.specs.Tree.{Body}
 use Rattle.hlo_cmd.proofs.Sources.{hundred, no_text, no_head, no_statements, only_source, rest_fits}

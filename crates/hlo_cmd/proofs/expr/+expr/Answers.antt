@@ -1,4 +1,4 @@
-use Rattle.std.proofs.Common.{◌≡◌, ◌-◌, suc, refl, sym, ◌∙◌, ap, arith}
+use Rattle.std.proofs.Common.{◌≡◌, ◌-◌, suc, refl, ◌∙◌, ap, arith}
 use Rattle.hlo_cmd.specs.declared.token.Token.TheVariants.{Number, Putchar, Open}
 use Rattle.std.proofs.lemmas.Result.{IfOk-weaker}
 use Rattle.hlo_cmd.specs.Emitting.{Lowers}

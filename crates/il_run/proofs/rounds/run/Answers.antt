@@ -1,10 +1,7 @@
-use Rattle.std.proofs.Common.{false}
-use Rattle.il_run.proofs.Asking.{asks_first, asks_turn}
-use Rattle.il_run.proofs.Running.{if_told, stops_first}
 use Rattle.il_run.proofs.rounds.run.Goals as goal
 
-pub returns-in_default-clause-asks : goal.returns-in_default-clause-asks
-returns-in_default-clause-asks g c = asks_turn _ _ false (asks_first _ false)
+pub returns-in-Some-clause-counted : goal.returns-in-Some-clause-counted
+returns-in-Some-clause-counted g c = rw c.in-Some.is c.run_counted.ensures.counted
 
-pub returns-in_default-clause-stops : goal.returns-in_default-clause-stops
-returns-in_default-clause-stops g c = if_told _ _ (λ bytes e. stops_first _ _ _ bytes c.requires)
+pub returns-in-Some-clause-shape : goal.returns-in-Some-clause-shape
+returns-in-Some-clause-shape g c = rw c.in-Some.is c.run_counted.ensures.shape

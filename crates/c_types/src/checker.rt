@@ -1,0 +1,148 @@
+//! What the check of a module knows at a place.
+ghost use Rattle.std.specs.Prelude.{◌≡◌, [], IfOk, OnOk, ◌==◌};
+ghost use Rattle.sym_tables.specs.Table.{mark};
+ghost use Rattle.c_types.specs.Follows.{Follows};
+ghost use Rattle.c_types.specs.Names as names;
+ghost use Rattle.c_types.specs.Rules.{Here};
+
+use crate::binding::Binding;
+use crate::fault::{TypeFault, TypeKind};
+use crate::function::Local;
+use crate::scopes::Scopes;
+use c_tree::Identifier;
+use hlo_num::Name;
+use indexmap::IndexSet;
+use std::alloc::{AllocError, Global};
+use std::marker::Model;
+use sym_tables::ProgramSyms;
+
+/// An enumeration tag stands for nothing but itself.
+#[derive(Clone, Copy)]
+pub(crate) struct Tag;
+
+/// An array that was declared tentatively, with its line.
+#[derive(Drop)]
+pub struct Awaited {
+    pub name: Name,
+    pub line: u32,
+}
+
+/// What is known at a place of the module. Contracts see it as `Here`.
+#[derive(Drop)]
+pub(crate) struct Checker {
+    pub(crate) alloc: Global,
+    names: Scopes<Binding>,
+    tags: Scopes<Tag>,
+    pub(crate) syms: ProgramSyms,
+    /// The locals of the function at hand.
+    locals: Vec<Local>,
+    /// The cases of the innermost switch, and whether it has a default.
+    cases: IndexSet<u32>,
+    default: bool,
+    awaited: Vec<Awaited>,
+}
+
+impl Model for Checker {
+    ghost use Rattle.c_types.specs.Rules.{Here};
+
+    ghost Value = { Here };
+
+    ghost view = { λ c. record { names = c.names; tags = c.tags; syms = c.syms; locals = c.locals.items; cases = c.cases.keys; default = c.default; awaited = c.awaited.items } };
+}
+
+/// The fault of a rule that is broken at a line.
+pub(crate) fn broken(line: u32, kind: TypeKind) -> TypeFault
+    ensures { result ≡ TypeFault.At line kind }
+{
+    TypeFault::At { line, kind }
+}
+
+impl Checker {
+    /// What a name is bound to; `Undeclared` where it isn't in scope.
+    pub(crate) fn find(&self, x: &Identifier) -> Result<Binding, TypeFault>
+        ensures { Follows (λ b. b) (names.find x.now) self.now result self.now }
+    {
+        match self.names.visible(&x.name) {
+            Some(b) => Ok(b),
+            None => Err(broken(x.line, TypeKind::Undeclared)),
+        }
+    }
+
+    /// What the innermost scope binds a name to.
+    pub(crate) fn bound_here(&self, name: &Name) -> Option<Binding>
+        ensures { result ≡ names.bound_here name.now self.now }
+    {
+        self.names.innermost(name)
+    }
+
+    /// Whether the innermost scope is that of the file.
+    pub(crate) fn is_at_file_scope(&self) -> bool
+        ensures { result ≡ (self.now.names.depth == 0) }
+    {
+        self.names.depth() == 0
+    }
+
+    /// Binds a name in the innermost scope.
+    pub(crate) fn bind(&mut self, name: &Name, b: Binding) -> Result<(), AllocError>
+        ensures { OnOk result (self.new ≡ names.bind name.now b self.old) }
+    {
+        self.names.declare(name, b)
+    }
+
+    /// Declares a name that the innermost scope doesn't have; `Redeclared` where it has it.
+    pub(crate) fn declare_new(&mut self, x: &Identifier, b: Binding) -> Result<(), TypeFault>
+        ensures { Follows (λ _. tt) (names.declare_new x.now b) self.old result self.new }
+    {
+        if self.bound_here(&x.name).is_some() {
+            return Err(broken(x.line, TypeKind::Redeclared));
+        }
+        self.bind(&x.name, b)?;
+        Ok(())
+    }
+
+    /// Begins a scope.
+    pub(crate) fn enter(&mut self) -> Result<(), AllocError>
+        ensures { OnOk result (self.new ≡ names.enter self.old) }
+    {
+        self.names.enter()?;
+        self.tags.enter()
+    }
+
+    /// Ends the innermost scope.
+    pub(crate) fn leave(&mut self)
+        ensures { self.new ≡ names.leave self.old }
+    {
+        self.names.leave();
+        self.tags.leave();
+    }
+
+    /// Asks for a tag, in whatever scope; `Undeclared` where there is none.
+    pub(crate) fn use_tag(&self, x: &Identifier) -> Result<(), TypeFault>
+        ensures { Follows (λ _. tt) (names.use_tag x.now) self.now result self.now }
+    {
+        if self.tags.visible(&x.name).is_none() {
+            return Err(broken(x.line, TypeKind::Undeclared));
+        }
+        Ok(())
+    }
+
+    /// Declares a tag that the innermost scope doesn't have; `Redeclared` where it has it.
+    pub(crate) fn declare_tag(&mut self, x: &Identifier) -> Result<(), TypeFault>
+        ensures { Follows (λ _. tt) (names.declare_tag x.now) self.old result self.new }
+    {
+        if self.tags.innermost(&x.name).is_some() {
+            return Err(broken(x.line, TypeKind::Redeclared));
+        }
+        self.tags.declare(&x.name, Tag)?;
+        Ok(())
+    }
+
+    /// Notes that an expression binds a PID.
+    pub(crate) fn use_pid(&mut self, pid: u32)
+        ensures { self.new ≡ record self.old { syms = mark self.old.syms pid } }
+    {
+        if self.syms.entity(pid).is_some() {
+            self.syms.mark_used(pid);
+        }
+    }
+}

@@ -1,0 +1,22 @@
+//! Typed trees: modules in which each name is bound, each expression has its type and each conversion is
+//! a node. `specs/` has what they mean: the meaning of C, and the meaning of linked modules.
+#![tactic(auto)]
+
+mod binding;
+mod checker;
+mod constant;
+mod conversion;
+mod expression;
+mod fault;
+mod function;
+mod nodes;
+mod plain;
+mod scopes;
+mod specifiers;
+mod statement;
+mod uses;
+
+pub use expression::{Array, BinaryOp, LogicalOp, Place, TypedExpr, Variable};
+pub use fault::{TypeFault, TypeKind};
+pub use function::{Local, Parameter, TypedFunction, TypedModule};
+pub use statement::{Label, Section, TypedStmt};

@@ -1,0 +1,18 @@
+use Rattle.std.proofs.Common.{false}
+use Rattle.il_run.proofs.Asking.{asks_first, asks_turn}
+use Rattle.il_run.proofs.Counting.{still_first}
+use Rattle.il_run.proofs.Placing.{wanted_start}
+use Rattle.il_run.proofs.Running.{if_told, stops_first}
+use Rattle.il_run.proofs.rounds.run_counting.Goals as goal
+
+pub returns-in_default-clause-asks : goal.returns-in_default-clause-asks
+returns-in_default-clause-asks g c = asks_turn _ _ false (asks_first _ false)
+
+pub returns-in_default-clause-asks_wanted : goal.returns-in_default-clause-asks_wanted
+returns-in_default-clause-asks_wanted g c = wanted_start _ _ _ _
+
+pub returns-in_default-clause-counter : goal.returns-in_default-clause-counter
+returns-in_default-clause-counter g c = still_first _ _ c.requires.counter
+
+pub returns-in_default-clause-stops : goal.returns-in_default-clause-stops
+returns-in_default-clause-stops g c = if_told _ _ (λ bytes e. stops_first _ _ _ bytes c.requires.valid)
