@@ -24,3 +24,4 @@ pub mod ItemRules
 pub mod ItemParts
 pub mod Whole
 pub mod Told
+pub mod Samples

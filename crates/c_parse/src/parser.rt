@@ -17,12 +17,15 @@ use std::alloc::Global;
 /// How high a statement or an expression may be.
 const LIMIT: u16 = 256;
 
-/// The module that the tokens are, by the grammar of C90 (6.3, 6.5 to 6.7) without what the profile leaves
-/// out; no other module is spelled so. Otherwise the first token with which no module goes on, or the end, by
-/// its line: `Unexpected` where no module at all goes on, `Deep` where one does, but each has a statement or an
-/// expression higher than 256. No token is met twice: it takes time in proportion to the tokens and the bytes
-/// of their names, memory for the tree alone, and goes down a bounded number of calls for each of the 256
-/// heights.
+/// The module that the tokens are, by the grammar of C90 (6.3, 6.5 to 6.7) without what the profile leaves out;
+/// no other module is spelled so, and none of its statements and expressions is higher than 256.
+///
+/// Otherwise `At` has the line of the first token, or of the end, with which no such module goes on; it is
+/// `Unexpected` where no module at all goes on with it, and `Deep` where each that does is too high. `Memory`
+/// comes where memory is short.
+///
+/// It never goes back: it takes time in proportion to the tokens and the bytes of their names, memory for the
+/// tree alone, and stack for at most 256 heights, 8 to 12 KiB each in the built program.
 pub fn parse(alloc: Global, tokens: &[Token]) -> Result<Module, ParseFault>
     ensures answers { Answers tokens.now result }
 {

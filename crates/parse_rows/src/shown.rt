@@ -109,7 +109,9 @@ fn statement(out: &mut String, depth: u8, s: &Stmt) -> Result<(), AllocError> {
             write!(out, ")")
         }
         Stmt::If {
-            condition, then, ..
+            condition,
+            then,
+            ..
         } => guarded(out, d, "if", condition, then.get()),
         Stmt::IfElse {
             condition,
@@ -122,10 +124,14 @@ fn statement(out: &mut String, depth: u8, s: &Stmt) -> Result<(), AllocError> {
         }
         Stmt::Switch { value, body, .. } => guarded(out, d, "switch", value, body.get()),
         Stmt::While {
-            condition, body, ..
+            condition,
+            body,
+            ..
         } => guarded(out, d, "while", condition, body.get()),
         Stmt::Do {
-            body, condition, ..
+            body,
+            condition,
+            ..
         } => guarded(out, d, "do", condition, body.get()),
         Stmt::Case { value, body, .. } => guarded(out, d, "case", value, body.get()),
         Stmt::Default { body, .. } => {
@@ -153,13 +159,7 @@ fn statement(out: &mut String, depth: u8, s: &Stmt) -> Result<(), AllocError> {
 
 /// An expression and a statement that it decides on.
 #[cycle(statement)]
-fn guarded(
-    out: &mut String,
-    depth: u8,
-    word: &str,
-    e: &Expr,
-    s: &Stmt,
-) -> Result<(), AllocError> {
+fn guarded(out: &mut String, depth: u8, word: &str, e: &Expr, s: &Stmt) -> Result<(), AllocError> {
     write!(out, "({word} ")?;
     expression(out, depth, e)?;
     write!(out, ")")?;
@@ -233,7 +233,10 @@ fn expression(out: &mut String, depth: u8, e: &Expr) -> Result<(), AllocError> {
             last(out, d, operand.get())
         }
         Expr::Binary {
-            op, left, right, ..
+            op,
+            left,
+            right,
+            ..
         } => {
             write!(out, "({op:?}")?;
             two(out, d, left.get(), right.get())
@@ -261,7 +264,10 @@ fn expression(out: &mut String, depth: u8, e: &Expr) -> Result<(), AllocError> {
             two(out, d, left.get(), right.get())
         }
         Expr::Conditional {
-            condition, yes, no, ..
+            condition,
+            yes,
+            no,
+            ..
         } => {
             write!(out, "(? ")?;
             expression(out, d, condition.get())?;
@@ -304,7 +310,9 @@ fn specifier(out: &mut String, depth: u8, s: &Specifier) -> Result<(), AllocErro
             write!(out, " ")
         }
         Specifier::Enum {
-            tag, enumerators, ..
+            tag,
+            enumerators,
+            ..
         } => {
             write!(out, "enum ")?;
             if let Some(tag) = tag {

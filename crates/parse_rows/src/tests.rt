@@ -25,11 +25,7 @@ fn shown(alloc: Global, text: &[u8]) -> Result<String, AllocError> {
     Ok(out)
 }
 
-fn expect(
-    rt: &impl Abort,
-    alloc: Global,
-    rows: &[(&[u8], &str)],
-) -> Result<(), AllocError> {
+fn expect(rt: &impl Abort, alloc: Global, rows: &[(&[u8], &str)]) -> Result<(), AllocError> {
     for (text, wanted) in rows {
         let got = shown(alloc, *text)?;
         assert_eq!(rt; got.as_str(), *wanted);
@@ -58,10 +54,7 @@ fn items(rt: HostRuntime) -> Result<(), Fail> {
             b"int a,b=1,c[],d[2]={1,2,},e[]={3,4},f(),g(int,char x);",
             "(declare Int  a b=1:Int c[-] d[2:Int]={ 1:Int 2:Int} e[-]={ 3:Int 4:Int} f() g(Int ;Char x;))",
         ),
-        (
-            b"int f(void){}int g(x",
-            "Unexpected 1",
-        ),
+        (b"int f(void){}int g(x", "Unexpected 1"),
         (
             b"int f(void){}long g(){int x;enum{a};x;}",
             "(function Int f(Void ;){})(function Long g(){(declare Int  x)(declare enum {a;} )x;})",
