@@ -36,7 +36,7 @@ use Rattle.c_types.specs.declared.conversion.Operator.TheVariants.{Skipping, Wor
 use Rattle.c_types.specs.Constants.{word_of_value, binary_value, logical_value, chosen_value, cast_value, unary_value, constant_name, constant_element}
 use Rattle.c_types.specs.Conversions.{converted, sorted, left_type, right_type, result_type, unary_type, operand_type, wanted, arms_type, arm, common}
 use Rattle.c_types.specs.Enumerations.{value_in, enumerator}
-use Rattle.c_types.specs.Rules.{Here, Rule, ◌>>=◌, ◌>>◌, give, broken, known, change, unless}
+use Rattle.c_types.specs.Rules.{Here, Rule, ◌>>=◌, ◌>>◌, give, broken, known, change, unless, in_order}
 use Rattle.c_types.specs.Names.{find, use_tag, declare_tag}
 use Rattle.c_types.specs.declared.specifiers.Part.{Part}
 use Rattle.c_types.specs.declared.specifiers.Part.TheVariants.{One, Tagged, Listed}
@@ -379,20 +379,13 @@ enumeration_constant c next = do
   enumerator c.name v
 
 -- specifiers: each in order, and what they say together at the place where they stand
-abbrev pub all_parts : List (Rule Part) → Rule (List Part)
-all_parts [] = give []
-all_parts (s ∷ ss) = do
-  p ← s
-  ps ← all_parts ss
-  give (p ∷ ps)
-
 abbrev pub specified_or : ℕ → Option Specified → Rule Specified
 specified_or line None = broken line kinds.Specifiers
 specified_or line (Some s) = give s
 
 abbrev pub specifiers : Specifiers-F Typing (Rule Part) (ℤ → Rule ℤ) (Site → Rule Specified) → Site → Rule Specified
 specifiers s site = do
-  parts ← all_parts s.items
+  parts ← in_order s.items
   specified_or s.line (meaning site parts)
 
 -- the rules of an expression, and of specifiers

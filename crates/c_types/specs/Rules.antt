@@ -1,6 +1,6 @@
 -- Rules of types and linkage. A rule looks at the names that are in scope where it stands, may declare more, and gives
 -- what it finds; or it is broken, and then nothing behind it counts.
-use Rattle.std.specs.Prelude.{ℕ, Bool, true, false, List}
+use Rattle.std.specs.Prelude.{ℕ, Bool, true, false, List, [], ◌∷◌}
 use Rattle.hlo_num.specs.declared.word.Ty.{Ty}
 use Rattle.sym_tables.specs.Table.{Table}
 use Rattle.c_types.specs.declared.binding.Binding.{Binding}
@@ -60,3 +60,11 @@ change f h = Gives tt (f h)
 abbrev pub unless : Bool → ℕ → TypeKind → Rule (Unit {0})
 unless true line kind = give tt
 unless false line kind = broken line kind
+
+-- rules in order, each behind the one before
+abbrev pub in_order : {A : Type 0} → List (Rule A) → Rule (List A)
+in_order [] = give []
+in_order (r ∷ rs) = do
+  x ← r
+  xs ← in_order rs
+  give (x ∷ xs)

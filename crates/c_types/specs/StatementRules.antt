@@ -30,7 +30,7 @@ use Rattle.c_types.specs.declared.fault.TypeKind.TheVariants as kinds
 use Rattle.c_types.specs.Constants.{word_of_value}
 use Rattle.c_types.specs.Conversions.{converted}
 use Rattle.c_types.specs.ExpressionRules.{Typing, valued, constant_valued, typing, specifying}
-use Rattle.c_types.specs.Rules.{Here, Rule, ◌>>=◌, ◌>>◌, give, broken, known, change, unless}
+use Rattle.c_types.specs.Rules.{Here, Rule, ◌>>=◌, ◌>>◌, give, broken, known, change, unless, in_order}
 use Rattle.c_types.specs.Names.{scoped, bound_here, bind}
 
 -- what is round a statement: the type of the value that the function gives, and whether `break` and `continue` have
@@ -51,6 +51,7 @@ pub record Ruled : Type 0 where
   pub stmt : Around → Rule TypedStmt
   pub body : Around → Ty → Rule (List Section)
   pub item : Around → Ty → Rule Labelled
+  pub section : Around → Ty → Rule Section
 
 -- a constant expression's word and type
 abbrev pub constant_word : Expr → Rule ℕ
@@ -124,11 +125,7 @@ declarator s d = do
   give (roll-TypedStmt (TypedStmt-F.Declaration place value))
 
 abbrev pub declarators : Specified → List Declarator → Rule (List TypedStmt)
-declarators s [] = give []
-declarators s (d ∷ ds) = do
-  t ← declarator s d
-  ts ← declarators s ds
-  give (t ∷ ts)
+declarators s ds = in_order (map (declarator s) ds)
 
 abbrev is_empty : {A : Type 0} → List A → Bool
 is_empty [] = true
@@ -152,11 +149,7 @@ declarations (d ∷ ds) = do
   give (ts ++ us)
 
 abbrev pub statements : Around → List Ruled → Rule (List TypedStmt)
-statements a [] = give []
-statements a (s ∷ ss) = do
-  t ← s.stmt a
-  ts ← statements a ss
-  give (t ∷ ts)
+statements a ss = in_order (map (λ s. s.stmt a) ss)
 
 abbrev pub section : Labelled → Section
 section x = roll-Section (record { labels = x.labels; body = x.stmt })
@@ -166,11 +159,7 @@ unlabelled s = record { labels = []; stmt = s }
 
 -- the statements of a switch's block
 abbrev pub sections : Around → Ty → List Ruled → Rule (List Section)
-sections a ty [] = give []
-sections a ty (s ∷ ss) = do
-  x ← s.item a ty
-  xs ← sections a ty ss
-  give (section x ∷ xs)
+sections a ty ss = in_order (map (λ s. s.section a ty) ss)
 
 -- what a block stands for in a scope that is open already: its declarators and its statements, the latter perhaps with
 -- the case labels of a switch
@@ -307,8 +296,13 @@ item_layer s a ty = do
   t ← stmt_layer s a
   give (unlabelled t)
 
+abbrev pub section_layer : Stmt-F Ruled Blocked → Around → Ty → Rule Section
+section_layer s a ty = do
+  x ← item_layer s a ty
+  give (section x)
+
 abbrev pub statement : Stmt-F Ruled Blocked → Ruled
-statement s = record { stmt = stmt_layer s; body = body_layer s; item = item_layer s }
+statement s = record { stmt = stmt_layer s; body = body_layer s; item = item_layer s; section = section_layer s }
 
 -- the rules of a statement, and of a block
 abbrev pub ruling : Stmt → Ruled

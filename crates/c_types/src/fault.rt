@@ -1,6 +1,6 @@
 //! Why a module is refused by the rules of types and linkage.
 
-use std::alloc::AllocError;
+use std::alloc::{AllocError, AllocFailed};
 
 /// Why a module isn't typed.
 #[derive(Clone, Copy, Debug, PartialEq, Eq)]
@@ -18,6 +18,17 @@ impl From<AllocError> for TypeFault {
     ghost from_gives = { λ e f. f ≡ Memory };
 
     fn from(_: AllocError) -> TypeFault {
+        TypeFault::Memory
+    }
+}
+
+impl<T: Drop> From<AllocFailed<T>> for TypeFault {
+    ghost use Rattle.std.specs.Prelude.{◌≡◌};
+    ghost use Rattle.c_types.specs.declared.fault.TypeFault.TheVariants.{Memory};
+
+    ghost from_gives = { λ _ e. e ≡ Memory };
+
+    fn from(_: AllocFailed<T>) -> TypeFault {
         TypeFault::Memory
     }
 }

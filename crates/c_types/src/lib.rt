@@ -13,6 +13,7 @@ mod nodes;
 mod plain;
 mod scopes;
 mod specifiers;
+mod specifying;
 mod statement;
 mod uses;
 

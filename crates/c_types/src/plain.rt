@@ -136,6 +136,18 @@ impl Checker {
         }
     }
 
+    /// Declares the constant that has the value of this word in a type.
+    pub(crate) fn declare_number(
+        &mut self,
+        x: &Identifier,
+        ty: Ty,
+        w: u32,
+    ) -> Result<i64, TypeFault>
+        ensures { Follows (λ n. n) (enumerations.enumerator x.now (enumerations.value_in ty w)) self.old result self.new }
+    {
+        self.declare_constant(x, number(ty, w))
+    }
+
     /// Declares the constant of this value, and gives the value of a next one. `Library` where it has the name
     /// of the library's at file scope, `Redeclared` where the scope has the name, `EnumRange` where int doesn't
     /// hold the value.
