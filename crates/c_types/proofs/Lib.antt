@@ -10,3 +10,5 @@ pub mod ScopeTables
 pub mod SpecifierViews
 mod StatementSamples
 pub mod StatementViews
+pub mod TypeSets
+mod TypingSamples

@@ -1,5 +1,5 @@
 -- A use of a PID that isn't there changes nothing.
-use Rattle.std.proofs.Common.{◌≡◌, ℕ, zero, suc, Bool, true, false, List, [], ◌∷◌, Option, Some, None, is_some, refl, sym, ap, subst, Bor}
+use Rattle.std.proofs.Common.{◌≡◌, ℕ, zero, suc, false, [], ◌∷◌, Option, Some, None, is_some, refl, sym, ap, Bor}
 use Rattle.std.proofs.lemmas.Bool.{true≢false}
 use Rattle.std.specs.Option.{option_map, option_copied}
 use Rattle.sym_tables.specs.declared.entity.Entity.{Entity}

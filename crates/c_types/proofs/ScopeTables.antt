@@ -1,5 +1,5 @@
 -- The table of names says what is in scope, also after a declaration was added or taken out.
-use Rattle.std.proofs.Common.{◌≡◌, ℕ, ◌-◌, ◌==◌, Bool, true, false, if◌then◌else◌, List, [], ◌∷◌, ◌++◌, map, Option, Some, None, is_some, refl, sym, ap, ◌∙◌, subst}
+use Rattle.std.proofs.Common.{◌≡◌, ℕ, ◌==◌, Bool, true, false, if◌then◌else◌, List, [], ◌∷◌, map, Option, Some, None, is_some, refl, sym, ap, ◌∙◌, subst}
 use Rattle.std.proofs.lemmas.Bool.{eq-eqb, ne_eqb}
 use Rattle.std.specs.Cmp.Lexicographic.{nat_list_eq_equiv}
 use Rattle.std.specs.Map.{lookup}
@@ -7,8 +7,8 @@ use Rattle.std.specs.Option.{option_map}
 use Rattle.sym_tables.specs.Table.{same_name}
 use Rattle.c_types.specs.declared.scopes.Latest.{Latest}
 use Rattle.c_types.specs.declared.scopes.Entry.{Entry}
-use Rattle.c_types.specs.Scopes.{Declared, Scopes, latest, visible, at_depth, innermost, inner, outer, left}
-use Rattle.c_types.specs.ScopeTable.{declaration, latest_entry, at_most_one, noted, Notes, IsKept, IsPopped, IsLeft}
+use Rattle.c_types.specs.Scopes.{Declared, Scopes, latest, visible, at_depth, innermost, inner, outer}
+use Rattle.c_types.specs.ScopeTable.{declaration, latest_entry, at_most_one, noted, Notes, IsKept, IsPopped}
 
 -- two names that are the same have the same latest declaration
 same_latest : {B : Type 0} (a b : List ℕ) (es : List (Entry B)) → same_name a b ≡ true → latest_entry a es ≡ latest_entry b es

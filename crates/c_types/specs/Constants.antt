@@ -1,7 +1,7 @@
 -- Constant expressions (C90, 6.4): constants, constants of enumerations and `EOF`, casts and operators, without
 -- assignments, steps, calls and the comma operator. Each operand is typed, but `&&`, `||` and `?:` evaluate only what
 -- decides.
-use Rattle.std.specs.Prelude.{ℕ, Bool, true, false, ◌==◌, Option, Some, None, Result, Ok, Err, if◌then◌else◌}
+use Rattle.std.specs.Prelude.{ℕ, ◌==◌, Some, Result, Ok, Err, if◌then◌else◌}
 use Rattle.hlo_num.specs.declared.word.Ty.{Ty}
 use Rattle.hlo_num.specs.declared.word.Ty.TheVariants.{Int}
 use Rattle.hlo_num.specs.declared.word.Trap.{Trap}
@@ -9,7 +9,6 @@ use Rattle.hlo_num.specs.Words.{convert}
 use Rattle.c_tree.specs.declared.expression.UnaryOp.{UnaryOp}
 use Rattle.c_types.specs.declared.binding.Binding.{Binding}
 use Rattle.c_types.specs.declared.binding.Binding.TheVariants as bindings
-use Rattle.c_types.specs.declared.binding.Extent.{Extent}
 use Rattle.c_types.specs.declared.binding.Extent.TheVariants as extents
 use Rattle.c_types.specs.declared.constant.Evaluated.{Evaluated}
 use Rattle.c_types.specs.declared.constant.Evaluated.TheVariants.{Word, Traps}
@@ -21,7 +20,7 @@ use Rattle.c_types.specs.declared.fault.TypeKind.TheVariants as kinds
 use Rattle.c_types.specs.Conversions.{left_type}
 use Rattle.c_types.specs.Operators.{binary, unary}
 use Rattle.c_types.specs.Expressions.{is_nonzero}
-use Rattle.c_types.specs.Rules.{Rule, ◌>>=◌, give, broken}
+use Rattle.c_types.specs.Rules.{Rule, give, broken}
 
 abbrev pub evaluated : Evaluated → (ℕ → Evaluated) → Evaluated
 evaluated (Word w) next = next w

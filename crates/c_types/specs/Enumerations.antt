@@ -1,5 +1,5 @@
 -- The constants of enumerations (C90, 6.5.2.2), and the names of the library (C90, 7.7 and 7.10).
-use Rattle.std.specs.Prelude.{ℕ, Bool, true, false, ◌&&◌, ◌||◌, ◌==◌, ◌^◌, not, ℤ, pos, neg_ℤ, ◌+ℤ◌, int_le, int_lt, is_none, List, codes, if◌then◌else◌}
+use Rattle.std.specs.Prelude.{ℕ, Bool, ◌&&◌, ◌||◌, ◌==◌, ◌^◌, not, ℤ, pos, neg_ℤ, ◌+ℤ◌, int_le, int_lt, is_none, List, codes, if◌then◌else◌}
 use Rattle.hlo_num.specs.declared.word.Ty.{Ty}
 use Rattle.hlo_num.specs.Words.{signed, word_of}
 use Rattle.c_tree.specs.declared.expression.Identifier.{Identifier}
@@ -7,7 +7,7 @@ use Rattle.sym_tables.specs.Table.{same_name}
 use Rattle.c_types.specs.declared.binding.Binding.TheVariants as bindings
 use Rattle.c_types.specs.declared.fault.TypeKind.TheVariants as kinds
 use Rattle.c_types.specs.Operators.{is_signed}
-use Rattle.c_types.specs.Rules.{Here, Rule, ◌>>=◌, ◌>>◌, give, known, change, unless}
+use Rattle.c_types.specs.Rules.{Rule, ◌>>=◌, ◌>>◌, give, known, change, unless}
 use Rattle.c_types.specs.Names.{bound_here, bind}
 
 -- the names that the two headers declare

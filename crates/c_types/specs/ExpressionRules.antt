@@ -1,6 +1,6 @@
 -- The rules of expressions, and of the enumerations in specifiers (C90, 6.3, 6.4 and 6.5.2.2): what each form asks of
 -- its parts, in the order of the text. Each form stands for what its parts stand for.
-use Rattle.std.specs.Prelude.{ℕ, ◌==◌, Bool, true, false, ◌&&◌, ℤ, pos, List, [], ◌∷◌, Option, Some, None, length, if◌then◌else◌}
+use Rattle.std.specs.Prelude.{ℕ, ◌==◌, Bool, true, false, ℤ, pos, List, [], ◌∷◌, Option, Some, None, length}
 use Rattle.hlo_num.specs.declared.word.Ty.{Ty}
 use Rattle.hlo_num.specs.declared.word.Ty.TheVariants.{Int}
 use Rattle.c_tree.specs.declared.expression.Identifier.{Identifier}
@@ -20,7 +20,6 @@ use Rattle.c_types.specs.declared.binding.Library.TheVariants as library
 use Rattle.c_types.specs.declared.expression.TypedExpr.{TypedExpr, roll-TypedExpr}
 use Rattle.c_types.specs.declared.expression.Place.TheOpen.{TypedExpr-F}
 use Rattle.c_types.specs.declared.expression.BinaryOp.{BinaryOp}
-use Rattle.c_types.specs.declared.expression.LogicalOp.{LogicalOp}
 use Rattle.c_types.specs.declared.specifiers.Site.{Site}
 use Rattle.c_types.specs.declared.specifiers.Site.TheVariants as sites
 use Rattle.c_types.specs.declared.specifiers.Specified.{Specified}
@@ -34,9 +33,9 @@ use Rattle.c_types.specs.declared.conversion.Target.{Target}
 use Rattle.c_types.specs.declared.conversion.Operator.{Operator}
 use Rattle.c_types.specs.declared.conversion.Operator.TheVariants.{Skipping, Working}
 use Rattle.c_types.specs.Constants.{word_of_value, binary_value, logical_value, chosen_value, cast_value, unary_value, constant_name, constant_element}
-use Rattle.c_types.specs.Conversions.{converted, sorted, left_type, right_type, result_type, unary_type, operand_type, wanted, arms_type, arm, common}
+use Rattle.c_types.specs.Conversions.{converted, sorted, left_type, right_type, result_type, unary_type, operand_type, wanted, arms_type, arm}
 use Rattle.c_types.specs.Enumerations.{value_in, enumerator}
-use Rattle.c_types.specs.Rules.{Here, Rule, ◌>>=◌, ◌>>◌, give, broken, known, change, unless, in_order}
+use Rattle.c_types.specs.Rules.{Rule, ◌>>=◌, ◌>>◌, give, broken, unless, in_order}
 use Rattle.c_types.specs.Names.{find, use_tag, declare_tag}
 use Rattle.c_types.specs.declared.specifiers.Part.{Part}
 use Rattle.c_types.specs.declared.specifiers.Part.TheVariants.{One, Tagged, Listed}

@@ -1,5 +1,5 @@
 -- What a step of the check promises: that it follows a rule.
-use Rattle.std.specs.Prelude.{◌≡◌, ℕ, Result, Ok, Err}
+use Rattle.std.specs.Prelude.{◌≡◌, Result, Ok, Err}
 use Rattle.c_types.specs.declared.fault.TypeFault.{TypeFault}
 use Rattle.c_types.specs.declared.fault.TypeFault.TheVariants as faults
 use Rattle.c_types.specs.Rules.{Here, Reply, Gives, Breaks, Rule}

@@ -21,3 +21,4 @@ pub mod Types
 pub mod Typing
 pub mod Uses
 pub mod Views
+pub mod WordCounts

@@ -1,5 +1,5 @@
 -- Rules of names and enumeration tags, which have name spaces of their own (C90, 6.1.2.3 and 6.5.2.3).
-use Rattle.std.specs.Prelude.{ℕ, Bool, true, false, List, Option, Some, None, is_none, is_some}
+use Rattle.std.specs.Prelude.{ℕ, List, Option, Some, None, is_none, is_some}
 use Rattle.c_tree.specs.declared.expression.Identifier.{Identifier}
 use Rattle.c_types.specs.declared.binding.Binding.{Binding}
 use Rattle.c_types.specs.declared.checker.Tag.{Tag}

@@ -1,7 +1,6 @@
 -- Rules of types and linkage. A rule looks at the names that are in scope where it stands, may declare more, and gives
 -- what it finds; or it is broken, and then nothing behind it counts.
 use Rattle.std.specs.Prelude.{ℕ, Bool, true, false, List, [], ◌∷◌}
-use Rattle.hlo_num.specs.declared.word.Ty.{Ty}
 use Rattle.sym_tables.specs.Table.{Table}
 use Rattle.c_types.specs.declared.binding.Binding.{Binding}
 use Rattle.c_types.specs.declared.fault.TypeKind.{TypeKind}

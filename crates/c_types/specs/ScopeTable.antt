@@ -1,6 +1,6 @@
 -- How names in scope are kept: a table from each name to its latest declaration, and the declarations, each with the
 -- one that it hides.
-use Rattle.std.specs.Prelude.{◌≡◌, ℕ, ◌+◌, List, [], ◌∷◌, map, Option, Some, None, if◌then◌else◌}
+use Rattle.std.specs.Prelude.{◌≡◌, ℕ, List, [], ◌∷◌, Option, Some, None, if◌then◌else◌}
 use Rattle.std.specs.Map.{lookup}
 use Rattle.sym_tables.specs.Table.{same_name}
 use Rattle.c_types.specs.declared.scopes.Latest.{Latest}

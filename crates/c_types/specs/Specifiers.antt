@@ -12,7 +12,6 @@ use Rattle.c_types.specs.declared.specifiers.Storage.TheVariants as storages
 use Rattle.c_types.specs.declared.specifiers.Site.{Site}
 use Rattle.c_types.specs.declared.specifiers.Site.TheVariants.{File, Block, Parameter, Cast}
 use Rattle.c_types.specs.declared.specifiers.Specified.{Specified}
-use Rattle.c_types.specs.declared.specifiers.Counts.{Counts}
 use Rattle.c_types.specs.declared.specifiers.Part.{Part}
 use Rattle.c_types.specs.declared.specifiers.Part.TheVariants.{One, Tagged, Listed}
 
@@ -61,46 +60,61 @@ abbrev pub first_storage : List Part → Option Storage
 first_storage [] = None
 first_storage (p ∷ ps) = or_later (storage_part p) (first_storage ps)
 
-abbrev pub word_counts : List Part → Counts
-word_counts ps = record {
-  void = how_many (is_word Void) ps;
-  char = how_many (is_word Char) ps;
-  short = how_many (is_word Short) ps;
-  int = how_many (is_word Int) ps;
-  long = how_many (is_word Long) ps;
-  signed = how_many (is_word Signed) ps;
-  unsigned = how_many (is_word Unsigned) ps;
-  enums = how_many is_enum ps;
-}
+-- the words that may name a type (C90, 6.5.2)
+abbrev pub naming_words : List SpecifierWord
+naming_words = Void ∷ Char ∷ Short ∷ Int ∷ Long ∷ Signed ∷ Unsigned ∷ []
 
-abbrev pub none : Counts
-none = record { void = 0; char = 0; short = 0; int = 0; long = 0; signed = 0; unsigned = 0; enums = 0 }
+-- the sets of words that name a type, with the type; void is no type of a value (C90, 6.5.2)
+abbrev pub type_sets : List (List SpecifierWord × Option Ty)
+type_sets =
+    (Void ∷ [], None)
+    ∷ (Char ∷ [], Some types.Char)
+    ∷ (Signed ∷ Char ∷ [], Some types.Char)
+    ∷ (Unsigned ∷ Char ∷ [], Some types.UChar)
+    ∷ (Short ∷ [], Some types.Short)
+    ∷ (Short ∷ Int ∷ [], Some types.Short)
+    ∷ (Signed ∷ Short ∷ [], Some types.Short)
+    ∷ (Signed ∷ Short ∷ Int ∷ [], Some types.Short)
+    ∷ (Unsigned ∷ Short ∷ [], Some types.UShort)
+    ∷ (Unsigned ∷ Short ∷ Int ∷ [], Some types.UShort)
+    ∷ (Int ∷ [], Some types.Int)
+    ∷ (Signed ∷ Int ∷ [], Some types.Int)
+    ∷ (Signed ∷ [], Some types.Int)
+    ∷ (Unsigned ∷ [], Some types.UInt)
+    ∷ (Unsigned ∷ Int ∷ [], Some types.UInt)
+    ∷ (Long ∷ [], Some types.Long)
+    ∷ (Long ∷ Int ∷ [], Some types.Long)
+    ∷ (Signed ∷ Long ∷ [], Some types.Long)
+    ∷ (Signed ∷ Long ∷ Int ∷ [], Some types.Long)
+    ∷ (Unsigned ∷ Long ∷ [], Some types.ULong)
+    ∷ (Unsigned ∷ Long ∷ Int ∷ [], Some types.ULong)
+    ∷ []
 
-abbrev pub same : Counts → Counts → Bool
-same a b = (a.void == b.void) && (a.char == b.char) && (a.short == b.short) && (a.int == b.int) && (a.long == b.long) && (a.signed == b.signed) && (a.unsigned == b.unsigned) && (a.enums == b.enums)
+-- how often a word stands in a set
+abbrev pub times : SpecifierWord → List SpecifierWord → ℕ
+times w [] = 0
+times w (v ∷ vs) = if sameb the_type w v then 1 + times w vs else times w vs
 
--- these words stand, and no others but `int` and `signed`, once each, where they may stand besides
-abbrev pub is_set : Counts → Bool → Bool → Counts → Bool
-is_set words int signed c =
-    same c words
-    || (int && same c (record words { int = 1 }))
-    || (signed && same c (record words { signed = 1 }))
-    || (int && signed && same c (record words { int = 1; signed = 1 }))
+-- each of these words stands among the parts as often as in the set
+abbrev pub stand_alike : List SpecifierWord → List Part → List SpecifierWord → Bool
+stand_alike [] ps set = true
+stand_alike (w ∷ ws) ps set = (how_many (is_word w) ps == times w set) && stand_alike ws ps set
 
--- the sets of words, in any order, that make a type (C90, 6.5.2); void is no type of a value. There may be no such type
-abbrev pub type_of_counts : Counts → Option (Option Ty)
-type_of_counts c =
-    if same c (record none { void = 1 }) then Some None else
-    (if same c (record none { enums = 1 }) then Some (Some types.Int) else
-    (if is_set (record none { char = 1 }) false true c then Some (Some types.Char) else
-    (if same c (record none { char = 1; unsigned = 1 }) then Some (Some types.UChar) else
-    (if is_set (record none { short = 1 }) true true c then Some (Some types.Short) else
-    (if is_set (record none { short = 1; unsigned = 1 }) true false c then Some (Some types.UShort) else
-    (if is_set (record none { int = 1 }) false true c then Some (Some types.Int) else
-    (if same c (record none { signed = 1 }) then Some (Some types.Int) else
-    (if is_set (record none { unsigned = 1 }) true false c then Some (Some types.UInt) else
-    (if is_set (record none { long = 1 }) true true c then Some (Some types.Long) else
-    (if is_set (record none { long = 1; unsigned = 1 }) true false c then Some (Some types.ULong) else None))))))))))
+-- the words among the parts that may name a type are those of the set, in any order
+abbrev pub has_words : List Part → List SpecifierWord → Bool
+has_words ps set = stand_alike naming_words ps set
+
+-- the type of the first set of a list that has just the words of the parts
+abbrev pub named_by : List (List SpecifierWord × Option Ty) → List Part → Option (Option Ty)
+named_by [] ps = None
+named_by (s ∷ sets) ps = if has_words ps s.0 then Some s.1 else named_by sets ps
+
+-- the type that the parts name, if they name one: words alone, which are one of the sets; or one enumeration alone,
+-- which is int
+abbrev pub type_named : List Part → Option (Option Ty)
+type_named ps =
+    if how_many is_enum ps == 0 then named_by type_sets ps
+    else (if (how_many is_enum ps == 1) && has_words ps [] then Some (Some types.Int) else None)
 
 -- an enumeration's constants are listed
 abbrev pub lists : List Part → Bool
@@ -141,4 +155,4 @@ specified_as ps (Some ty) = Some (record { storage = first_storage ps; fixed = n
 
 -- what specifiers say at a place, or none where they break the rule
 abbrev pub meaning : Site → List Part → Option Specified
-meaning site ps = if fit site ps then specified_as ps (type_of_counts (word_counts ps)) else None
+meaning site ps = if fit site ps then specified_as ps (type_named ps) else None

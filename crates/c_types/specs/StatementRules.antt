@@ -1,8 +1,7 @@
 -- The rules of statements and of declarations in blocks (C90, 6.5 and 6.6).
-use Rattle.std.specs.Prelude.{ℕ, ◌+◌, Bool, true, false, ◌&&◌, ◌||◌, ◌==◌, nat_le, not, List, [], ◌∷◌, ◌++◌, Option, Some, None, is_none, length, map, if◌then◌else◌}
+use Rattle.std.specs.Prelude.{ℕ, Bool, true, false, ◌&&◌, ◌||◌, ◌==◌, nat_le, not, List, [], ◌∷◌, ◌++◌, Option, Some, None, is_none, length, map}
 use Rattle.std.specs.List.{list_any}
 use Rattle.hlo_num.specs.declared.word.Ty.{Ty}
-use Rattle.hlo_num.specs.declared.word.Word.{Word}
 use Rattle.hlo_num.specs.Words.{convert, promote}
 use Rattle.c_tree.specs.declared.expression.Expr.{Expr}
 use Rattle.c_tree.specs.declared.declaration.Declaration.{Declaration}
@@ -29,8 +28,8 @@ use Rattle.c_types.specs.declared.statement.TypedStmt.TheOpen.{TypedStmt-F}
 use Rattle.c_types.specs.declared.fault.TypeKind.TheVariants as kinds
 use Rattle.c_types.specs.Constants.{word_of_value}
 use Rattle.c_types.specs.Conversions.{converted}
-use Rattle.c_types.specs.ExpressionRules.{Typing, valued, constant_valued, typing, specifying}
-use Rattle.c_types.specs.Rules.{Here, Rule, ◌>>=◌, ◌>>◌, give, broken, known, change, unless, in_order}
+use Rattle.c_types.specs.ExpressionRules.{valued, constant_valued, typing, specifying}
+use Rattle.c_types.specs.Rules.{Rule, ◌>>=◌, ◌>>◌, give, broken, known, change, unless, in_order}
 use Rattle.c_types.specs.Names.{scoped, bound_here, bind}
 
 -- what is round a statement: the type of the value that the function gives, and whether `break` and `continue` have

@@ -1,6 +1,6 @@
 -- The use of names in expressions: as a value, as the target of an assignment or a step, as a function (C90, 6.3.1 to
 -- 6.3.4). A PID is used wherever an expression binds its name.
-use Rattle.std.specs.Prelude.{ℕ, Bool, true, false, ◌==◌, List, [], ◌∷◌, Option, Some, None, not, length, if◌then◌else◌}
+use Rattle.std.specs.Prelude.{ℕ, Bool, false, Option, Some, None, not, if◌then◌else◌}
 use Rattle.hlo_num.specs.declared.word.Ty.{Ty}
 use Rattle.hlo_num.specs.declared.word.Ty.TheVariants.{Int}
 use Rattle.sym_tables.specs.declared.entity.Entity.{Entity}
@@ -22,7 +22,7 @@ use Rattle.c_types.specs.declared.conversion.Typed.{Typed}
 use Rattle.c_types.specs.declared.conversion.Target.{Target}
 use Rattle.c_types.specs.declared.uses.Subscripted.{Subscripted}
 use Rattle.c_types.specs.declared.uses.Called.{Called}
-use Rattle.c_types.specs.Rules.{Here, Rule, ◌>>=◌, ◌>>◌, give, broken, known, change, unless}
+use Rattle.c_types.specs.Rules.{Rule, ◌>>=◌, ◌>>◌, give, broken, known, change, unless}
 
 -- a PID is used
 abbrev pub use_pid : ℕ → Rule (Unit {0})

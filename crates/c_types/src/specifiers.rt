@@ -1,6 +1,7 @@
 //! What the specifiers of a declaration say together (ISO C90, 6.5.1 to 6.5.3).
 ghost use Rattle.std.specs.Prelude.{◌≡◌, ◌+◌, ◌==◌};
 ghost use Rattle.c_types.specs.Specifiers as specs;
+ghost use Rattle.c_types.specs.WordCounts as counts;
 
 use c_tree::SpecifierWord;
 use hlo_num::Ty;
@@ -169,7 +170,7 @@ fn first_storage(parts: &[Part]) -> Option<Storage>
 }
 
 fn word_counts(parts: &[Part]) -> Counts
-    ensures { result ≡ specs.word_counts parts.now }
+    ensures { result ≡ counts.word_counts parts.now }
 {
     Counts {
         void: words(parts, SpecifierWord::Void),
@@ -184,7 +185,7 @@ fn word_counts(parts: &[Part]) -> Counts
 }
 
 fn same(a: Counts, b: Counts) -> bool
-    ensures { result ≡ specs.same a b }
+    ensures { result ≡ counts.same a b }
 {
     a.void == b.void
         && a.char == b.char
@@ -198,7 +199,7 @@ fn same(a: Counts, b: Counts) -> bool
 
 /// Whether these words stand, and no others but `int` and `signed`, where they may stand besides.
 fn is_set(words: Counts, int: bool, signed: bool, c: Counts) -> bool
-    ensures { result ≡ specs.is_set words int signed c }
+    ensures { result ≡ counts.is_set words int signed c }
 {
     same(c, words)
         || (int && same(c, Counts { int: 1, ..words }))
@@ -217,7 +218,7 @@ fn is_set(words: Counts, int: bool, signed: bool, c: Counts) -> bool
 
 /// The type that the words make, which is none for void; there may be no such type.
 fn type_of_counts(c: Counts) -> Option<Option<Ty>>
-    ensures { result ≡ specs.type_of_counts c }
+    ensures { result ≡ counts.type_of_counts c }
 {
     let char = Counts { char: 1, ..NONE };
     let short = Counts { short: 1, ..NONE };
@@ -276,6 +277,15 @@ fn type_of_counts(c: Counts) -> Option<Option<Ty>>
     }
 }
 
+/// The type that specifiers name, which is none for void; they may name none. It goes over them once for each
+/// word that may name a type.
+#[tactic(auto, using(crate::proofs::TypeSets::types_agree))]
+fn type_named(parts: &[Part]) -> Option<Option<Ty>>
+    ensures { result ≡ specs.type_named parts.now }
+{
+    type_of_counts(word_counts(parts))
+}
+
 /// Whether a storage class may stand at a place.
 fn allows(site: Site, storage: Option<Storage>) -> bool
     ensures { result ≡ specs.allows site storage }
@@ -310,7 +320,7 @@ pub(crate) fn meaning(site: Site, parts: &[Part]) -> Option<Specified>
     if storages(parts) > 1 || fixed > consts(site) || !allows(site, storage) {
         return None;
     }
-    match type_of_counts(word_counts(parts)) {
+    match type_named(parts) {
         Some(ty) => Some(Specified {
             storage,
             fixed: fixed != 0,

@@ -1,4 +1,4 @@
-use Rattle.std.proofs.Common.{rules, ◌≡◌, Option, Some, None, pos, map, sym, ap, ◌∙◌, subst}
+use Rattle.std.proofs.Common.{rules, ◌≡◌, pos, map, sym, ap, ◌∙◌, subst}
 use Rattle.std.specs.Option.{option_map}
 use Rattle.std.specs.Int.{w64}
 use Rattle.std.proofs.lemmas.Int.{to_z-of_z}
@@ -6,7 +6,7 @@ use Rattle.std.proofs.lemmas.Result.{err_from_is_err_and}
 use Rattle.c_types.specs.Enumerations.{enumerator}
 use Rattle.c_types.specs.ExpressionRules as er
 use Rattle.c_types.specs.Follows.{Follows, Tells}
-use Rattle.c_types.specs.Rules.{followed, give, ◌>>=◌, in_order}
+use Rattle.c_types.specs.Rules.{followed, ◌>>=◌, in_order}
 use Rattle.c_types.specs.Specifiers.{meaning}
 use Rattle.c_types.proofs.Orders.{tells_before, tells_after}
 use Rattle.c_types.proofs.SpecifierViews.{specifying_is, enumerating_is, given_constant, reading_enum}
