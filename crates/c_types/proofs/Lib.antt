@@ -10,3 +10,4 @@ pub mod ScopeTables
 pub mod SpecifierViews
 mod StatementSamples
 pub mod StatementViews
+pub mod Typings
