@@ -2,7 +2,7 @@ use Rattle.std.proofs.Common.{rules, ◌≡◌, map, drop, sym, ap, ◌∙◌, s
 use Rattle.c_types.specs.ExpressionRules as er
 use Rattle.c_types.specs.Follows.{Follows}
 use Rattle.c_types.specs.Names.{find}
-use Rattle.c_types.specs.Rules.{Gives, ◌>>=◌}
+use Rattle.c_types.specs.Rules.{Gives}
 use Rattle.c_types.proofs.Orders.{before, follows_after}
 use Rattle.c_types.proofs.Typings.{typing_call, no_types_left, no_arguments_left}
 use Rattle.c_types.proofs.checker.Checker.+expressions.Goals as goal
