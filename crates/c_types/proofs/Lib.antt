@@ -12,3 +12,4 @@ mod StatementSamples
 pub mod StatementViews
 pub mod TypeSets
 mod TypingSamples
+pub mod Typings

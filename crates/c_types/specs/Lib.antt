@@ -1,3 +1,4 @@
+pub mod Arms
 pub mod Constants
 pub mod Conversions
 pub mod DeclarationRules

@@ -15,6 +15,7 @@ mod scopes;
 mod specifiers;
 mod specifying;
 mod statement;
+mod typing;
 mod uses;
 
 pub use expression::{Array, BinaryOp, LogicalOp, Place, TypedExpr, Variable};
