@@ -8,6 +8,7 @@ use Rattle.c_lex.specs.declared.fault.LexKind.TheVariants.{BadNumber}
 use Rattle.c_parse.specs.Modules.{IsModule}
 use Rattle.c_parse.specs.Promise.{limit}
 use Rattle.c_parse.specs.declared.fault.ParseKind.TheVariants.{Unexpected}
+use Rattle.c_types.specs.Typing.{start}
 use Rattle.outside.specs.Told.{Untold}
 use Rattle.hlo_cmd.specs.Check.{IsModuleText}
 use Rattle.hlo_cmd.specs.Checking.{EndsAt}
@@ -60,7 +61,9 @@ second_unread = record {
   earlier = codes "a" ∷ [];
   later = codes "c" ∷ [];
   modules = record { items = [] } ∷ [];
+  syms = [];
   whole = refl;
   held = (tt, tt);
+  typed = (record { functions = [] }, start [], refl, refl);
   cause = omega arith;
 }
