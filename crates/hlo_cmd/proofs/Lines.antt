@@ -1,5 +1,5 @@
 -- The line of a fault with a place, in its pieces, and the line of a refusal.
-use Rattle.std.proofs.Common.{◌≡◌, ℕ, List, [], ◌∷◌, ◌++◌, Option, Result, sym, subst, ◌∙◌, ap, append_assoc, take, inl, inr}
+use Rattle.std.proofs.Common.{◌≡◌, ℕ, List, [], ◌∷◌, ◌++◌, Option, Result, sym, subst, ◌∙◌, ap, append_assoc, take, inl, inr, arith}
 use Rattle.std.specs.Prelude.{codes, decimal}
 use Rattle.std.specs.Io.KnownBytes.{Appends}
 use Rattle.outside.specs.Taken.{TakesAll}
@@ -49,12 +49,12 @@ last_takes a b c d r file number kind name line e f g h k =
 pub refused_by : (words : List (List ℕ)) (tells : List ℕ → Told) (before after : List ℕ → ℕ) (syms : Table) (Said : List ℕ → Type 0) (status : ℕ) (why : CheckRefusal) → status ≡ check_status why → IsCheckCause why words tells before after syms → Said (check_line syms why) → status ≡ 3 → IsRefused words tells before after Said
 refused_by words tells before after syms Said status Usage e cause said three =
     let other : 2 ≡ 3 = sym e ∙ three in
-    absurd cc
+    absurd (omega (arith, other))
 refused_by words tells before after syms Said status (File file (NoModule fault)) e cause said three = inl (fault, record { files = cause.0; request = cause.1; file = file.now; ends = cause.2; said = said })
 refused_by words tells before after syms Said status (File file CannotRead) e cause said three =
     let other : 5 ≡ 3 = sym e ∙ three in
-    absurd cc
+    absurd (omega (arith, other))
 refused_by words tells before after syms Said status (File file Memory) e cause said three =
     let other : 10 ≡ 3 = sym e ∙ three in
-    absurd cc
+    absurd (omega (arith, other))
 refused_by words tells before after syms Said status (Link fault) e cause said three = inr (record { syms = syms; fault = fault; unlinked = cause; said = said })

@@ -1,4 +1,3 @@
-use Rattle.std.proofs.Common.{◌≡◌, ◌⊎◌, inl, inr}
 use Rattle.hlo_cmd.proofs.Going.{all_link, none_breaks, none_passes, no_other_end, no_other_refusal}
 use Rattle.hlo_cmd.proofs.Lines.{refused_by}
 use Rattle.hlo_cmd.specs.Command.{Says}
