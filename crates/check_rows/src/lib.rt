@@ -2,6 +2,9 @@
 #![tactic(auto)]
 
 #[cfg(test)]
+mod typing;
+
+#[cfg(test)]
 mod tests {
     use hlo_cmd::plain_command;
     use outside::{MemShelf, MemSink, MemSource};
@@ -98,14 +101,14 @@ mod tests {
             text: b"",
             failing: &[],
         };
-        expect(&rt, alloc, row, 0, b"")?;
+        expect(&rt, alloc, row, 3, b"hlo: link: NoMain\n")?;
         Ok(())
     }
 
     #[test]
     fn texts(rt: HostRuntime) -> Result<(), Fail> {
         let alloc = rt.alloc();
-        expect_text(&rt, alloc, b"", 0, b"")?;
+        expect_text(&rt, alloc, b"", 3, b"hlo: link: NoMain\n")?;
         let module: &[u8] = b"#include <stdio.h>\nint main(void){return 0;}";
         expect_text(&rt, alloc, module, 0, b"")?;
         expect_text(&rt, alloc, b"int *p;", 3, b"hlo: z.c:1: Unexpected\n")?;

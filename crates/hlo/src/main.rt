@@ -15,7 +15,7 @@ use stream::Stream;
 
 const HELP: &str = "\
 usage: hlo opt FILE        prints the IL of the C module in FILE
-       hlo check FILE...   checks that each FILE is a C module
+       hlo check FILE...   checks that the FILEs are C modules that make a program
        hlo --help          prints this text
        hlo --version       prints the version
 ";

@@ -1,6 +1,7 @@
-//! What is wrong with a file that gives no module.
+//! What is wrong with a file that gives no typed module.
 use c_lex::LexKind;
 use c_parse::ParseKind;
+use c_types::TypeKind;
 
 /// What is wrong with the bytes of a file.
 #[derive(Clone, Copy, PartialEq, Eq)]
@@ -11,12 +12,14 @@ pub(crate) enum ModuleFault {
     Lexical { line: u32, kind: LexKind },
     /// Their tokens are no module.
     Syntax { line: u32, kind: ParseKind },
+    /// They are a module, which breaks a rule of types or linkage.
+    Typing { line: u32, kind: TypeKind },
 }
 
-/// Why a file gives no module.
+/// Why a file gives no typed module.
 #[derive(Clone, Copy, PartialEq, Eq)]
 pub(crate) enum FileFault {
-    /// It holds none.
+    /// Something is wrong with its bytes.
     NoModule(ModuleFault),
     /// Reading it failed.
     CannotRead,
