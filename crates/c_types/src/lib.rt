@@ -9,6 +9,7 @@ mod conversion;
 mod expression;
 mod fault;
 mod function;
+mod lengths;
 mod nodes;
 mod plain;
 mod scopes;
