@@ -10,6 +10,7 @@ mod expression;
 mod fault;
 mod function;
 mod lengths;
+mod locals;
 mod nodes;
 mod plain;
 mod scopes;
