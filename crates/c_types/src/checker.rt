@@ -1,9 +1,10 @@
 //! What the check of a module knows at a place.
-ghost use Rattle.std.specs.Prelude.{◌≡◌, [], IfOk, OnOk, ◌==◌};
+ghost use Rattle.std.specs.Prelude.{◌≡◌, [], false, IfOk, OnOk, ◌==◌};
 ghost use Rattle.sym_tables.specs.Table.{mark};
 ghost use Rattle.c_types.specs.Follows.{Follows};
 ghost use Rattle.c_types.specs.Names as names;
 ghost use Rattle.c_types.specs.Rules.{Here};
+ghost use Rattle.c_types.specs.StatementRules as statements;
 
 use crate::binding::Binding;
 use crate::fault::{TypeFault, TypeKind};
@@ -14,6 +15,7 @@ use hlo_num::Name;
 use indexmap::IndexSet;
 use std::alloc::{AllocError, Global};
 use std::marker::Model;
+use std::mem;
 use sym_tables::ProgramSyms;
 
 /// An enumeration tag stands for nothing but itself.
@@ -25,6 +27,13 @@ pub(crate) struct Tag;
 pub struct Awaited {
     pub name: Name,
     pub line: u32,
+}
+
+/// The labels of a switch: its cases, and whether it has a default.
+#[derive(Drop)]
+pub(crate) struct Labels {
+    cases: IndexSet<u32>,
+    default: bool,
 }
 
 /// What is known at a place of the module. Contracts see it as `Here`.
@@ -144,5 +153,58 @@ impl Checker {
         if self.syms.entity(pid).is_some() {
             self.syms.mark_used(pid);
         }
+    }
+
+    /// A new local of the function, by its place. `Memory` ends also where the function has 2^32 locals, which
+    /// no module has room for.
+    pub(crate) fn new_local(&mut self, local: Local) -> Result<u32, TypeFault>
+        ensures { Follows (λ n. n) (statements.new_local local) self.old result self.new }
+    {
+        let Ok(place) = u32::try_from(self.locals.len()) else {
+            return Err(TypeFault::Memory);
+        };
+        self.locals.push(local)?;
+        Ok(place)
+    }
+
+    /// Begins the labels of a switch, and hands out those of the switch round it.
+    pub(crate) fn begin_labels(&mut self) -> Labels
+        ensures cases { result.cases.keys ≡ self.old.cases }
+        ensures default { result.default ≡ self.old.default }
+        ensures none { self.new ≡ record self.old { cases = []; default = false } }
+    {
+        Labels {
+            cases: mem::replace(&mut self.cases, IndexSet::new(self.alloc)),
+            default: mem::replace(&mut self.default, false),
+        }
+    }
+
+    /// Ends the labels of a switch: those of the switch round it come back.
+    pub(crate) fn end_labels(&mut self, outer: Labels)
+        ensures { self.new ≡ record self.old { cases = outer.cases.keys; default = outer.default } }
+    {
+        self.cases = outer.cases;
+        self.default = outer.default;
+    }
+
+    /// A case of the innermost switch, in expected constant time; `CaseRepeat` where the switch has it.
+    pub(crate) fn new_case(&mut self, line: u32, w: u32) -> Result<(), TypeFault>
+        ensures { Follows (λ _. tt) (statements.new_case line w) self.old result self.new }
+    {
+        if !self.cases.insert(w)? {
+            return Err(broken(line, TypeKind::CaseRepeat));
+        }
+        Ok(())
+    }
+
+    /// The default of the innermost switch; `CaseRepeat` where the switch has one.
+    pub(crate) fn new_default(&mut self, line: u32) -> Result<(), TypeFault>
+        ensures { Follows (λ _. tt) (statements.new_default line) self.old result self.new }
+    {
+        if self.default {
+            return Err(broken(line, TypeKind::CaseRepeat));
+        }
+        self.default = true;
+        Ok(())
     }
 }

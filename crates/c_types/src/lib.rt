@@ -9,6 +9,8 @@ mod conversion;
 mod expression;
 mod fault;
 mod function;
+mod lengths;
+mod locals;
 mod nodes;
 mod plain;
 mod scopes;
