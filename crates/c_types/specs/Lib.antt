@@ -1,6 +1,7 @@
 pub mod Constants
 pub mod Conversions
 pub mod DeclarationRules
+pub mod Definitions
 pub mod Enumerations
 pub mod ExpressionRules
 pub mod Expressions
