@@ -1,10 +1,12 @@
 pub mod Bound
 mod ExpressionSamples
 pub mod ExpressionViews
+pub mod FunctionParts
 mod LinkedSamples
 pub mod Marks
 pub mod Objects
 pub mod Orders
+pub mod ProgramNames
 mod Samples
 pub mod ScopeTables
 pub mod SpecifierViews

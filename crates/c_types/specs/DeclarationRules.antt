@@ -31,6 +31,7 @@ use Rattle.c_types.specs.declared.binding.Binding.TheVariants as bindings
 use Rattle.c_types.specs.declared.binding.Extent.{Extent}
 use Rattle.c_types.specs.declared.binding.Extent.TheVariants as extents
 use Rattle.c_types.specs.declared.binding.Library.TheVariants as library
+use Rattle.c_types.specs.declared.linkage.Linked.{Linked}
 use Rattle.c_types.specs.declared.specifiers.Site.TheVariants as sites
 use Rattle.c_types.specs.declared.specifiers.Specified.{Specified}
 use Rattle.c_types.specs.declared.specifiers.Storage.{Storage}
@@ -156,10 +157,6 @@ enter_name line standing name said = do
   entered line standing name said refused
 
 -- a declarator of a name that isn't the library's: what the module said before, the linkage, and then the program
-pub record Linked : Type 0 where
-  pub pid : ℕ
-  pub internal : Bool
-
 abbrev pub link : ℕ → Identifier → Option Storage → Bool → Standing → Entity → Rule Linked
 link number x storage function standing said = do
   old ← known (bound_here x.name)
@@ -200,21 +197,29 @@ type_or_none None = []
 type_or_none (Some ty) = ty ∷ []
 
 -- a single unnamed parameter of type void stands for no parameters
-abbrev pub parameters : List Parameter → Rule (List Ty)
-parameters (p ∷ []) = if is_none p.name then (do
+abbrev pub unnamed_parameter : Parameter → Rule (List Ty)
+unnamed_parameter p = do
   s ← specifying p.specifiers sites.Parameter
-  give (type_or_none s.ty)) else parameters_from 0 (p ∷ [])
+  give (type_or_none s.ty)
+
+abbrev pub parameters : List Parameter → Rule (List Ty)
+parameters (p ∷ []) = if is_none p.name then unnamed_parameter p else parameters_from 0 (p ∷ [])
 parameters ps = parameters_from 0 ps
+
+-- a function is declared, perhaps one of the library
+abbrev pub declare_function : ℕ → Identifier → Option Storage → Entity → Rule (Unit {0})
+declare_function number x storage said =
+    if is_library x.name
+    then declare_library x storage said false
+    else (do
+      l ← link number x storage true standings.Declared said
+      change (bind x.name (bindings.Function l.pid l.internal)))
 
 -- a declarator of a function at file scope
 abbrev pub file_function : ℕ → Specified → Declarator → List Parameter → Rule (Unit {0})
 file_function number s d ps = do
   types ← scoped (parameters ps)
-  if is_library d.name.name
-      then declare_library d.name s.storage (entities.Function s.ty types) false
-      else (do
-        l ← link number d.name s.storage true standings.Declared (entities.Function s.ty types)
-        change (bind d.name.name (bindings.Function l.pid l.internal)))
+  declare_function number d.name s.storage (entities.Function s.ty types)
   no_initialiser d.initialiser
 
 -- whether an object is a variable or an array, with its length where the declarator or its initialiser has it
@@ -253,11 +258,15 @@ element_words line ty room (e ∷ es) = do
   ws ← element_words line ty (room - 1) es
   give (record { 0 = convert ty w } ∷ ws)
 
--- an initialiser at file scope is constant; an array has braces, a variable none
-abbrev pub initial_words : ℕ → Ty → Extent → Initialiser → Rule (List Word)
-initial_words line ty extents.Scalar (initialisers.Value e) = do
+-- the word of a variable
+abbrev pub variable_word : Ty → Expr → Rule (List Word)
+variable_word ty e = do
   w ← constant_word e
   give (record { 0 = convert ty w } ∷ [])
+
+-- an initialiser at file scope is constant; an array has braces, a variable none
+abbrev pub initial_words : ℕ → Ty → Extent → Initialiser → Rule (List Word)
+initial_words line ty extents.Scalar (initialisers.Value e) = variable_word ty e
 initial_words line ty (extents.Array n) (initialisers.List l es) = element_words line ty (unwrap_or n 0) es
 initial_words line ty extent i = broken (initialiser_line i) kinds.Initialiser
 
@@ -273,6 +282,18 @@ begun x pid ty extent storage (Some i) = do
 begun x pid ty extent storage None =
     if is_array extent && not (is_extern storage) then change (λ h. record h { awaited = h.awaited ++ record { name = x.name; line = x.line } ∷ [] }) else give tt
 
+-- an object, as the declarator says, is declared as what the program and the module know of it
+abbrev pub bind_object : Specified → Declarator → Ty → Extent → Linked → Rule (Unit {0})
+bind_object s d ty extent l = do
+  change (bind d.name.name (bindings.Object l.pid l.internal ty s.fixed extent))
+  begun d.name l.pid ty extent s.storage d.initialiser
+
+abbrev pub declare_object : ℕ → Specified → Declarator → Ty → Extent → Rule (Unit {0})
+declare_object number s d ty said = do
+  old ← known (bound_here d.name.name)
+  l ← link number d.name s.storage false (object_standing s.storage d.initialiser) (object_entity ty s.fixed said)
+  bind_object s d ty (extent_or said old) l
+
 -- a declarator of an object at file scope
 abbrev pub file_object : ℕ → Specified → Declarator → Rule (Unit {0})
 file_object number s d = do
@@ -280,11 +301,7 @@ file_object number s d = do
   said ← file_extent d.name.line d.shape d.initialiser
   if is_library d.name.name
       then broken d.name.line kinds.Library
-      else (do
-        old ← known (bound_here d.name.name)
-        l ← link number d.name s.storage false (object_standing s.storage d.initialiser) (object_entity ty s.fixed said)
-        change (bind d.name.name (bindings.Object l.pid l.internal ty s.fixed (extent_or said old)))
-        begun d.name l.pid ty (extent_or said old) s.storage d.initialiser)
+      else declare_object number s d ty said
 
 abbrev pub file_shape : ℕ → Specified → Declarator → Shape → Rule (Unit {0})
 file_shape number s d (shapes.Function ps) = file_function number s d ps

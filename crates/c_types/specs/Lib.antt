@@ -2,6 +2,7 @@ pub mod Arms
 pub mod Constants
 pub mod Conversions
 pub mod DeclarationRules
+pub mod Definitions
 pub mod Enumerations
 pub mod ExpressionRules
 pub mod Expressions

@@ -84,6 +84,7 @@ function number f = do
   change (λ h. record h { locals = [] })
   body ← (blocking f.body).statements (record { result = s.ty; breaks = false; continues = false })
   locals ← known (λ h. h.locals)
+  change (λ h. record h { locals = [] })
   change leave
   give (record { pid = l.pid; result = s.ty; params = params; locals = locals; body = roll-TypedStmt (TypedStmt-F.Block body) })
 

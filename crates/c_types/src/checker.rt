@@ -1,15 +1,16 @@
 //! What the check of a module knows at a place.
-ghost use Rattle.std.specs.Prelude.{◌≡◌, [], false, IfOk, OnOk, ◌==◌};
+ghost use Rattle.std.specs.Prelude.{◌≡◌, [], ◌∷◌, ◌++◌, false, IfOk, OnOk, ◌==◌};
 ghost use Rattle.sym_tables.specs.Table.{mark};
 ghost use Rattle.c_types.specs.Follows.{Follows};
 ghost use Rattle.c_types.specs.Names as names;
 ghost use Rattle.c_types.specs.Rules.{Here};
 ghost use Rattle.c_types.specs.StatementRules as statements;
+ghost use Rattle.c_types.specs.Typing as typing;
 
 use crate::binding::Binding;
 use crate::fault::{TypeFault, TypeKind};
 use crate::function::Local;
-use crate::scopes::Scopes;
+use crate::scopes::{self, Scopes};
 use c_tree::Identifier;
 use hlo_num::Name;
 use indexmap::IndexSet;
@@ -51,6 +52,21 @@ pub(crate) struct Checker {
     awaited: Vec<Awaited>,
 }
 
+/// The innermost scope, to be opened again. Contracts see its names and its tags.
+#[derive(Drop)]
+pub(crate) struct Aside {
+    names: scopes::Aside<Binding>,
+    tags: scopes::Aside<Tag>,
+}
+
+impl Model for Aside {
+    ghost use Rattle.c_types.specs.Typing as typing;
+
+    ghost Value = { typing.Aside };
+
+    ghost view = { λ a. record { names = a.names; tags = a.tags } };
+}
+
 impl Model for Checker {
     ghost use Rattle.c_types.specs.Rules.{Here};
 
@@ -67,6 +83,88 @@ pub(crate) fn broken(line: u32, kind: TypeKind) -> TypeFault
 }
 
 impl Checker {
+    /// What is known where a module begins: the names of the program. It takes no memory.
+    pub(crate) fn new(alloc: Global, syms: ProgramSyms) -> Checker
+        ensures { result ≡ typing.start syms }
+    {
+        Checker {
+            alloc,
+            names: Scopes::new(alloc),
+            tags: Scopes::new(alloc),
+            syms,
+            locals: Vec::new(alloc),
+            cases: IndexSet::new(alloc),
+            default: false,
+            awaited: Vec::new(alloc),
+        }
+    }
+
+    /// The names of the program.
+    pub(crate) fn into_syms(self) -> ProgramSyms
+        ensures { result ≡ self.syms }
+    {
+        let Checker {
+            alloc: _,
+            names: _,
+            tags: _,
+            syms,
+            locals: _,
+            cases: _,
+            default: _,
+            awaited: _,
+        } = self;
+        syms
+    }
+
+    /// The arrays that were declared tentatively.
+    pub(crate) fn awaited(&self) -> &[Awaited]
+        ensures { result.now ≡ self.now.awaited }
+    {
+        self.awaited.as_slice()
+    }
+
+    /// Notes an array that was declared tentatively.
+    pub(crate) fn await_length(&mut self, x: &Identifier) -> Result<(), AllocError>
+        ensures { OnOk result (self.new ≡ record self.old { awaited = self.old.awaited ++ record { name = x.now.name; line = x.now.line } ∷ [] }) }
+    {
+        let name = x.name.clone()?;
+        self.awaited.push(Awaited { name, line: x.line })?;
+        Ok(())
+    }
+
+    /// A function begins: it has no locals yet.
+    pub(crate) fn forget_locals(&mut self)
+        ensures { self.new ≡ record self.old { locals = [] } }
+    {
+        self.locals.clear();
+    }
+
+    /// The locals of the function, which ends.
+    pub(crate) fn take_locals(&mut self) -> Vec<Local>
+        ensures locals { result.items ≡ self.old.locals }
+        ensures state { self.new ≡ record self.old { locals = [] } }
+    {
+        std::mem::replace(&mut self.locals, Vec::new(self.alloc))
+    }
+
+    /// Ends the innermost scope, and keeps it. On `Err` some of its names are gone.
+    pub(crate) fn set_aside(&mut self) -> Result<Aside, AllocError>
+        ensures { IfOk result (λ a. (a ≡ typing.aside self.old) × (self.new ≡ names.leave self.old)) }
+    {
+        let names = self.names.set_aside()?;
+        let tags = self.tags.set_aside()?;
+        Ok(Aside { names, tags })
+    }
+
+    /// Opens a scope again. On `Err` some of its names are missing.
+    pub(crate) fn resume(&mut self, aside: Aside) -> Result<(), AllocError>
+        ensures { OnOk result (self.new ≡ typing.resume aside self.old) }
+    {
+        let Aside { names, tags } = aside;
+        self.names.resume(names)?;
+        self.tags.resume(tags)
+    }
+
     /// What a name is bound to; `Undeclared` where it isn't in scope.
     pub(crate) fn find(&self, x: &Identifier) -> Result<Binding, TypeFault>
         ensures { Follows (λ b. b) (names.find x.now) self.now result self.now }

@@ -62,7 +62,7 @@ impl Entity {
 }
 
 /// Whether two declarations of one name may stand for one thing (ISO C90, 6.1.2.6).
-pub(crate) fn compatible(a: &Entity, b: &Entity) -> bool
+pub fn compatible(a: &Entity, b: &Entity) -> bool
     ensures { result ≡ compatible a.now b.now }
 {
     match (a, b) {

@@ -9,7 +9,7 @@ mod table;
 #[cfg(test)]
 mod tests;
 
-pub use entity::Entity;
+pub use entity::{Entity, compatible};
 pub use fault::SymFault;
 pub use symbol::{Standing, Symbol};
 pub use table::ProgramSyms;
