@@ -1,7 +1,7 @@
 -- The rules of declarations at file scope: linkage, the names of the library, arrays, initialisers (C90, 6.1.2.2, 6.5,
 -- 6.5.7, 6.7.2 and 7.1.3). At one declarator they come in this order: its type and length; the library's names; a
 -- declaration that goes with the earlier ones in this module; one linkage; what other modules say; the initialiser.
-use Rattle.std.specs.Prelude.{ℕ, ◌+◌, Bool, true, false, ◌&&◌, ◌||◌, ◌==◌, nat_le, nat_lt, not, ◌-◌, List, [], ◌∷◌, ◌++◌, Option, Some, None, is_none, length, codes, if◌then◌else◌}
+use Rattle.std.specs.Prelude.{ℕ, ◌+◌, Bool, true, false, ◌&&◌, ◌||◌, nat_lt, not, ◌-◌, List, [], ◌∷◌, ◌++◌, Option, Some, None, is_none, length, codes, if◌then◌else◌}
 use Rattle.std.specs.Option.{unwrap_or}
 use Rattle.std.specs.Fmt.{decimal}
 use Rattle.hlo_num.specs.declared.word.Ty.{Ty}
@@ -40,7 +40,7 @@ use Rattle.c_types.specs.declared.fault.TypeKind.{TypeKind}
 use Rattle.c_types.specs.declared.fault.TypeKind.TheVariants as kinds
 use Rattle.c_types.specs.Enumerations.{is_library}
 use Rattle.c_types.specs.ExpressionRules.{specifying}
-use Rattle.c_types.specs.Rules.{Here, Rule, ◌>>=◌, ◌>>◌, give, broken, known, change, unless}
+use Rattle.c_types.specs.Rules.{Rule, ◌>>=◌, ◌>>◌, give, broken, known, change, unless}
 use Rattle.c_types.specs.Names.{scoped, bound_here, bind, declare_new}
 use Rattle.c_types.specs.StatementRules.{constant_word, length_of, value_type, length_in, initialiser_line, declares, is_length}
 

@@ -1,5 +1,5 @@
 -- The typed module: the items in order, with the first rule that is broken, and what the check of a module answers.
-use Rattle.std.specs.Prelude.{ℕ, ◌+◌, ◌≡◌, Bool, true, false, not, List, [], ◌∷◌, ◌++◌, Option, Some, None, is_none, codes, Result, Ok, Err, if◌then◌else◌}
+use Rattle.std.specs.Prelude.{ℕ, ◌≡◌, Bool, true, false, not, List, [], ◌∷◌, Option, Some, None, is_none, codes, Result, Ok, Err, if◌then◌else◌}
 use Rattle.hlo_num.specs.declared.word.Ty.{Ty}
 use Rattle.sym_tables.specs.declared.entity.Entity.TheVariants as entities
 use Rattle.sym_tables.specs.declared.symbol.Standing.TheVariants as standings
