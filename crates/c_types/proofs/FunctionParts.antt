@@ -1,5 +1,5 @@
 -- The definition of a function is what stands before its block, and then the block.
-use Rattle.std.proofs.Common.{◌≡◌, ℕ, true, not, List, [], ◌∷◌, ◌++◌, ◌⊎◌, inl, inr, Result, Ok, Err, refl, sym, ap, ◌∙◌}
+use Rattle.std.proofs.Common.{◌≡◌, ℕ, true, not, List, [], ◌∷◌, ◌⊎◌, inl, inr, Result, Ok, Err, refl, sym, ap, ◌∙◌}
 use Rattle.std.proofs.lemmas.List.{append-nil}
 use Rattle.hlo_num.specs.declared.word.Ty.{Ty}
 use Rattle.sym_tables.specs.declared.entity.Entity.TheVariants as entities

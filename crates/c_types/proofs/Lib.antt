@@ -2,6 +2,7 @@ pub mod Bound
 mod ExpressionSamples
 pub mod ExpressionViews
 pub mod FunctionParts
+pub mod ItemSteps
 mod LinkedSamples
 pub mod Marks
 pub mod Objects

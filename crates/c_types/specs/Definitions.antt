@@ -1,5 +1,5 @@
 -- The definition of a function in its two parts: what stands before its block, and the block.
-use Rattle.std.specs.Prelude.{ℕ, Bool, true, false, not, List, []}
+use Rattle.std.specs.Prelude.{ℕ, true, false, not, List, []}
 use Rattle.hlo_num.specs.declared.word.Ty.{Ty}
 use Rattle.sym_tables.specs.declared.entity.Entity.TheVariants as entities
 use Rattle.sym_tables.specs.declared.symbol.Standing.TheVariants as standings
@@ -17,7 +17,7 @@ use Rattle.c_types.specs.declared.statement.TypedStmt.TheOpen.{TypedStmt-F}
 use Rattle.c_types.specs.DeclarationRules.{link, parameters}
 use Rattle.c_types.specs.Enumerations.{is_library}
 use Rattle.c_types.specs.ExpressionRules.{specifying}
-use Rattle.c_types.specs.Rules.{Here, Rule, ◌>>=◌, ◌>>◌, give, known, change, unless}
+use Rattle.c_types.specs.Rules.{Rule, ◌>>=◌, ◌>>◌, give, known, change, unless}
 use Rattle.c_types.specs.Names.{enter, leave, bind}
 use Rattle.c_types.specs.StatementRules.{blocking}
 use Rattle.c_types.specs.Typing.{Aside, aside, resume, named_parameters}

@@ -1,4 +1,4 @@
-use Rattle.std.proofs.Common.{◌≡◌, ◌∙◌, ap, false, subst}
+use Rattle.std.proofs.Common.{◌∙◌, ap, false, subst}
 use Rattle.c_types.specs.DeclarationRules.{bind_object, extent_or, link, object_entity, object_standing}
 use Rattle.c_types.specs.Follows.{Follows}
 use Rattle.c_types.specs.Rules.{◌>>=◌}

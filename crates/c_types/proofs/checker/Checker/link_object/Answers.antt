@@ -1,5 +1,5 @@
 use Rattle.std.proofs.Common.{false, subst}
-use Rattle.c_types.specs.DeclarationRules.{link, object_entity, object_standing}
+use Rattle.c_types.specs.DeclarationRules.{link, object_standing}
 use Rattle.c_types.specs.Follows.{Follows}
 use Rattle.c_types.proofs.checker.Checker.link_object.Goals as goal
 
