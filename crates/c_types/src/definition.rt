@@ -139,6 +139,7 @@ impl Checker {
         Ok(named)
     }
 
+    /// A parameter of a definition; `NoName` where it has no name.
     fn named_parameter(&self, ty: Ty, p: &c_tree::Parameter) -> Result<Parameter, TypeFault>
         ensures { Follows (λ x. x) (typing.named_parameter ty p.now.specifiers.line p.now.name) self.now result self.now }
     {

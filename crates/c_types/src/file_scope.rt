@@ -57,6 +57,7 @@ fn object_standing(storage: Option<Storage>, initialiser: &Option<Initialiser>) 
     }
 }
 
+/// Whether an object is an array.
 fn is_array(extent: Extent) -> bool
     ensures { result ≡ rules.is_array extent }
 {
@@ -75,6 +76,7 @@ impl Checker {
         self.file_declarators(number, s, d.declarators.as_slice())
     }
 
+    /// The declarators of a declaration in order.
     fn file_declarators(
         &mut self,
         number: u32,
@@ -89,6 +91,7 @@ impl Checker {
         Ok(())
     }
 
+    /// A declarator of a function or an object.
     fn file_declarator(
         &mut self,
         number: u32,
@@ -187,6 +190,7 @@ impl Checker {
         Ok(types)
     }
 
+    /// The types of parameters, each with or without a name. `Specifiers` where one is void.
     fn all_parameters(&mut self, ps: &[Parameter]) -> Result<Vec<Ty>, TypeFault>
         ensures { Follows (λ v. v.items) (rules.parameters_from 0 ps.now) self.old result self.new }
     {
@@ -219,7 +223,7 @@ impl Checker {
         self.declare_new(x, Binding::Parameter { place, ty, fixed })
     }
 
-    /// A declarator of an object.
+    /// A declarator of an object. `Specifiers` where it is void, `Library` where it has a name of the library.
     fn file_object(&mut self, number: u32, s: Specified, d: &Declarator) -> Result<(), TypeFault>
         ensures { Follows (λ _. tt) (rules.file_object number s d.now) self.old result self.new }
     {
@@ -247,6 +251,7 @@ impl Checker {
         self.bind_object(s, d, ty, extent, l)
     }
 
+    /// What the program knows of the object.
     fn link_object(
         &mut self,
         number: u32,
@@ -262,6 +267,7 @@ impl Checker {
         self.link(number, &d.name, s.storage, false, standing, entity)
     }
 
+    /// Declares the object in the module as the program knows it, with its length and its words.
     fn bind_object(
         &mut self,
         s: Specified,

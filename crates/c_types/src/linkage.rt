@@ -23,12 +23,14 @@ pub struct Linked {
     pub internal: bool,
 }
 
+/// Whether a storage class is `static`.
 fn is_static(storage: Option<Storage>) -> bool
     ensures { result ≡ rules.is_static storage }
 {
     matches!(storage, Some(Storage::Static))
 }
 
+/// Whether a storage class is `extern`.
 pub(crate) fn is_extern(storage: Option<Storage>) -> bool
     ensures { result ≡ rules.is_extern storage }
 {
@@ -95,6 +97,7 @@ fn is_bound_otherwise(old: Option<Binding>) -> bool
     }
 }
 
+/// Whether a name has internal linkage.
 fn is_internal(b: Binding) -> bool
     ensures { result ≡ rules.is_internal b }
 {
@@ -242,7 +245,7 @@ impl Checker {
         }
     }
 
-    /// Takes a name of the module with this number in, by the name that the program has for it.
+    /// The same for a name of the module with this number, by the name that the program has for it.
     fn enter_linked(
         &mut self,
         number: u32,

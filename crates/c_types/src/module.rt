@@ -14,10 +14,9 @@ use std::alloc::Global;
 use std::mem;
 use sym_tables::ProgramSyms;
 
-/// Types the module with this number, counted from 1, and takes its names into those of the program, which
-/// are left as they are where a rule is broken, with the names so far. `TypeFault::At` is the first rule that
-/// is broken, with its line; `Memory` comes only where memory ends. It takes expected time in proportion to
-/// the module.
+/// Types the module with this number, counted from 1, and takes its names into those of the program. On `Err`
+/// these are the names met so far. `At` is the first rule that is broken, with its line; `Memory` comes only
+/// where memory ends. It takes expected time in proportion to the module.
 pub fn check(
     alloc: Global,
     m: &Module,
@@ -58,6 +57,7 @@ impl Checker {
         })
     }
 
+    /// The items in order: headers, declarations, and the functions that are defined, which are given.
     fn all_items(&mut self, number: u32, items: &[Item]) -> Result<Vec<TypedFunction>, TypeFault>
         ensures { Follows (λ v. v.items) (typing.all_items number items.now) self.old result self.new }
     {
