@@ -9,4 +9,5 @@ mod Samples
 pub mod ScopeTables
 pub mod SpecifierViews
 mod StatementSamples
+pub mod StatementSteps
 pub mod StatementViews

@@ -17,6 +17,7 @@ mod scopes;
 mod specifiers;
 mod specifying;
 mod statement;
+mod statements;
 mod uses;
 
 pub use expression::{Array, BinaryOp, LogicalOp, Place, TypedExpr, Variable};
