@@ -12,6 +12,7 @@ mod Samples
 pub mod ScopeTables
 pub mod SpecifierViews
 mod StatementSamples
+pub mod StatementSteps
 pub mod StatementViews
 pub mod TypeSets
 mod TypingSamples

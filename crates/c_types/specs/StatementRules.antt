@@ -25,19 +25,14 @@ use Rattle.c_types.specs.declared.statement.Label.TheVariants as labels
 use Rattle.c_types.specs.declared.statement.Section.{Section, roll-Section}
 use Rattle.c_types.specs.declared.statement.TypedStmt.{TypedStmt, roll-TypedStmt}
 use Rattle.c_types.specs.declared.statement.TypedStmt.TheOpen.{TypedStmt-F}
+use Rattle.c_types.specs.declared.statements.Around.{Around}
+use Rattle.c_types.specs.declared.statements.ForHead.{ForHead}
 use Rattle.c_types.specs.declared.fault.TypeKind.TheVariants as kinds
 use Rattle.c_types.specs.Constants.{word_of_value}
 use Rattle.c_types.specs.Conversions.{converted}
 use Rattle.c_types.specs.ExpressionRules.{valued, constant_valued, typing, specifying}
 use Rattle.c_types.specs.Rules.{Rule, ◌>>=◌, ◌>>◌, give, broken, known, change, unless, in_order}
 use Rattle.c_types.specs.Names.{scoped, bound_here, bind}
-
--- what is round a statement: the type of the value that the function gives, and whether `break` and `continue` have
--- something to leave
-pub record Around : Type 0 where
-  pub result : Option Ty
-  pub breaks : Bool
-  pub continues : Bool
 
 -- a statement with the case labels right before it
 pub record Labelled : Type 0 where
@@ -156,6 +151,12 @@ section x = roll-Section (record { labels = x.labels; body = x.stmt })
 abbrev pub unlabelled : TypedStmt → Labelled
 unlabelled s = record { labels = []; stmt = s }
 
+-- an item of a switch's block behind more labels
+abbrev pub behind : List Label → Rule Labelled → Rule Section
+behind ls rule = do
+  x ← rule
+  give (section (record { labels = ls ++ x.labels; stmt = x.stmt }))
+
 -- the statements of a switch's block
 abbrev pub sections : Around → Ty → List Ruled → Rule (List Section)
 sections a ty ss = in_order (map (λ s. s.section a ty) ss)
@@ -226,42 +227,70 @@ returned line (Some ty) e = do
   v ← valued (typing e)
   give (roll-TypedStmt (TypedStmt-F.Return (Some (converted ty v))))
 
--- a statement as it stands anywhere
-abbrev pub stmt_layer : Stmt-F Ruled Blocked → Around → Rule TypedStmt
-stmt_layer (Stmt-F.Block b) a = do
+-- a block in a scope of its own
+abbrev pub block_stmt : Blocked → Around → Rule TypedStmt
+block_stmt b a = do
   ss ← scoped (b.statements a)
   give (roll-TypedStmt (TypedStmt-F.Block ss))
-stmt_layer (Stmt-F.Empty l) a = give (roll-TypedStmt TypedStmt-F.Empty)
-stmt_layer (Stmt-F.Expression e) a = do
+
+abbrev pub expression_stmt : Expr → Rule TypedStmt
+expression_stmt e = do
   t ← (typing e).typed
   give (roll-TypedStmt (TypedStmt-F.Expression t.expr))
-stmt_layer (Stmt-F.If l c s) a = do
+
+abbrev pub if_then : Expr → Ruled → Around → Rule TypedStmt
+if_then c s a = do
   v ← valued (typing c)
   t ← s.stmt a
   give (roll-TypedStmt (TypedStmt-F.If v.expr t))
+
+abbrev pub switch_on : Expr → Ruled → Around → Rule TypedStmt
+switch_on e s a = do
+  v ← valued (typing e)
+  xs ← labelling (s.body (in_switch a) (promote v.ty))
+  give (roll-TypedStmt (TypedStmt-F.Switch (converted (promote v.ty) v) xs))
+
+abbrev pub while_loop : Expr → Ruled → Around → Rule TypedStmt
+while_loop c s a = do
+  v ← valued (typing c)
+  t ← s.stmt (in_loop a)
+  give (roll-TypedStmt (TypedStmt-F.While v.expr t))
+
+abbrev pub do_loop : Ruled → Expr → Around → Rule TypedStmt
+do_loop s c a = do
+  t ← s.stmt (in_loop a)
+  v ← valued (typing c)
+  give (roll-TypedStmt (TypedStmt-F.Do t v.expr))
+
+-- what stands between the parentheses of a `for`
+abbrev pub for_head : Option Expr → Option Expr → Option Expr → Rule ForHead
+for_head first c step = do
+  x ← optional_typed first
+  y ← optional_valued c
+  z ← optional_typed step
+  give (record { first = x; condition = y; step = z })
+
+abbrev pub for_loop : Option Expr → Option Expr → Option Expr → Ruled → Around → Rule TypedStmt
+for_loop first c step s a = do
+  h ← for_head first c step
+  t ← s.stmt (in_loop a)
+  give (roll-TypedStmt (TypedStmt-F.For h.first h.condition h.step t))
+
+-- a statement as it stands anywhere
+abbrev pub stmt_layer : Stmt-F Ruled Blocked → Around → Rule TypedStmt
+stmt_layer (Stmt-F.Block b) a = block_stmt b a
+stmt_layer (Stmt-F.Empty l) a = give (roll-TypedStmt TypedStmt-F.Empty)
+stmt_layer (Stmt-F.Expression e) a = expression_stmt e
+stmt_layer (Stmt-F.If l c s) a = if_then c s a
 stmt_layer (Stmt-F.IfElse l c s t) a = do
   v ← valued (typing c)
   x ← s.stmt a
   y ← t.stmt a
   give (roll-TypedStmt (TypedStmt-F.IfElse v.expr x y))
-stmt_layer (Stmt-F.Switch l e s) a = do
-  v ← valued (typing e)
-  xs ← labelling (s.body (in_switch a) (promote v.ty))
-  give (roll-TypedStmt (TypedStmt-F.Switch (converted (promote v.ty) v) xs))
-stmt_layer (Stmt-F.While l c s) a = do
-  v ← valued (typing c)
-  t ← s.stmt (in_loop a)
-  give (roll-TypedStmt (TypedStmt-F.While v.expr t))
-stmt_layer (Stmt-F.Do l s c) a = do
-  t ← s.stmt (in_loop a)
-  v ← valued (typing c)
-  give (roll-TypedStmt (TypedStmt-F.Do t v.expr))
-stmt_layer (Stmt-F.For l first c step s) a = do
-  x ← optional_typed first
-  y ← optional_valued c
-  z ← optional_typed step
-  t ← s.stmt (in_loop a)
-  give (roll-TypedStmt (TypedStmt-F.For x y z t))
+stmt_layer (Stmt-F.Switch l e s) a = switch_on e s a
+stmt_layer (Stmt-F.While l c s) a = while_loop c s a
+stmt_layer (Stmt-F.Do l s c) a = do_loop s c a
+stmt_layer (Stmt-F.For l first c step s) a = for_loop first c step s a
 stmt_layer (Stmt-F.Case l e s) a = broken l kinds.CaseOutside
 stmt_layer (Stmt-F.Default l s) a = broken l kinds.CaseOutside
 stmt_layer (Stmt-F.Break l) a = do

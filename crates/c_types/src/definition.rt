@@ -12,7 +12,7 @@ use crate::function::{Parameter, TypedFunction};
 use crate::plain::is_library;
 use crate::specifiers::{Site, Specified};
 use crate::statement::TypedStmt;
-use crate::stubs::Around;
+use crate::statements::Around;
 use c_tree::{Block, Function, Header, Identifier};
 use hlo_num::{Name, Seq, Ty, Word};
 use std::alloc::AllocError;

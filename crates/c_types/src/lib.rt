@@ -21,7 +21,7 @@ mod scopes;
 mod specifiers;
 mod specifying;
 mod statement;
-mod stubs;
+mod statements;
 mod typing;
 mod uses;
 
