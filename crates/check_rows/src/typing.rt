@@ -1,6 +1,6 @@
 //! Modules that break each rule of types and linkage, modules that don't link, and some in which nothing is
 //! wrong. The expected lines were found apart from this program.
-use hlo_cmd::plain_command;
+use hlo_cmd::{Status, plain_command};
 use outside::{MemShelf, MemSink, MemSource};
 use std::alloc::{AllocError, Global};
 use std::process::Abort;
@@ -9,17 +9,43 @@ use std::test::Fail;
 /// A module that makes a program.
 const MAIN: &str = "int main(void) { return 0; }\n";
 
-/// What `check` answers for files with these names and texts: its status, and the line that it told.
-fn answer(alloc: Global, named: &[(&str, &str)]) -> Result<String, AllocError> {
+/// The words `check` and these files.
+fn words_of(alloc: Global, named: &[(&str, &str)]) -> Result<Vec<String>, AllocError> {
     let mut words = Vec::new(alloc);
     words.push(String::from_str(alloc, "check")?)?;
+    for (name, _) in named {
+        words.push(String::from_str(alloc, *name)?)?;
+    }
+    Ok(words)
+}
+
+/// A file with this name and this text.
+fn file_of(alloc: Global, name: &str, text: &str) -> Result<(String, Vec<u8>), AllocError> {
+    let bytes = text.as_bytes().to_vec(alloc)?;
+    Ok((String::from_str(alloc, name)?, bytes))
+}
+
+/// A shelf with files of these names and texts.
+fn shelf_of(alloc: Global, named: &[(&str, &str)]) -> Result<MemShelf, AllocError> {
     let mut files = Vec::new(alloc);
     for (name, text) in named {
-        words.push(String::from_str(alloc, *name)?)?;
-        let bytes = text.as_bytes().to_vec(alloc)?;
-        files.push((String::from_str(alloc, *name)?, bytes))?;
+        files.push(file_of(alloc, *name, *text)?)?;
     }
-    let mut shelf = MemShelf::new(files, Vec::new(alloc));
+    Ok(MemShelf::new(files, Vec::new(alloc)))
+}
+
+/// A status, and the line that was told.
+fn shown(alloc: Global, status: Status, told: &MemSink) -> Result<String, AllocError> {
+    let line = str::from_utf8(told.bytes()).unwrap_or("no text");
+    let mut answer = String::new(alloc);
+    write!(answer, "{} {line}", status.0)?;
+    Ok(answer)
+}
+
+/// What `check` answers for files with these names and texts: its status, and the line that it told.
+fn answer(alloc: Global, named: &[(&str, &str)]) -> Result<String, AllocError> {
+    let words = words_of(alloc, named)?;
+    let mut shelf = shelf_of(alloc, named)?;
     let mut input = MemSource::new(Vec::new(alloc), Vec::new(alloc));
     let mut out = MemSink::new(alloc, Vec::new(alloc));
     let mut err = MemSink::new(alloc, Vec::new(alloc));
@@ -31,12 +57,7 @@ fn answer(alloc: Global, named: &[(&str, &str)]) -> Result<String, AllocError> {
         &mut out,
         &mut err,
     );
-    let mut answer = String::new(alloc);
-    match str::from_utf8(err.bytes()) {
-        Ok(line) => write!(answer, "{} {line}", status.0)?,
-        Err(_) => write!(answer, "{} and no text", status.0)?,
-    }
-    Ok(answer)
+    shown(alloc, status, &err)
 }
 
 /// Compares the answers for two files.
