@@ -233,29 +233,34 @@ block_stmt b a = do
   ss ← scoped (b.statements a)
   give (roll-TypedStmt (TypedStmt-F.Block ss))
 
+-- `e;`
 abbrev pub expression_stmt : Expr → Rule TypedStmt
 expression_stmt e = do
   t ← (typing e).typed
   give (roll-TypedStmt (TypedStmt-F.Expression t.expr))
 
+-- `if (c) s`
 abbrev pub if_then : Expr → Ruled → Around → Rule TypedStmt
 if_then c s a = do
   v ← valued (typing c)
   t ← s.stmt a
   give (roll-TypedStmt (TypedStmt-F.If v.expr t))
 
+-- `switch (e) s`
 abbrev pub switch_on : Expr → Ruled → Around → Rule TypedStmt
 switch_on e s a = do
   v ← valued (typing e)
   xs ← labelling (s.body (in_switch a) (promote v.ty))
   give (roll-TypedStmt (TypedStmt-F.Switch (converted (promote v.ty) v) xs))
 
+-- `while (c) s`
 abbrev pub while_loop : Expr → Ruled → Around → Rule TypedStmt
 while_loop c s a = do
   v ← valued (typing c)
   t ← s.stmt (in_loop a)
   give (roll-TypedStmt (TypedStmt-F.While v.expr t))
 
+-- `do s while (c);`
 abbrev pub do_loop : Ruled → Expr → Around → Rule TypedStmt
 do_loop s c a = do
   t ← s.stmt (in_loop a)
@@ -270,6 +275,7 @@ for_head first c step = do
   z ← optional_typed step
   give (record { first = x; condition = y; step = z })
 
+-- `for (first; condition; step) s`
 abbrev pub for_loop : Option Expr → Option Expr → Option Expr → Ruled → Around → Rule TypedStmt
 for_loop first c step s a = do
   h ← for_head first c step
