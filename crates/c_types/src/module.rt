@@ -14,9 +14,9 @@ use std::alloc::Global;
 use std::mem;
 use sym_tables::ProgramSyms;
 
-/// Types the module with this number, counted from 1, and takes its names into those of the program. On `Err`
-/// these are the names met so far. `At` is the first rule that is broken, with its line; `Memory` comes only
-/// where memory ends. It takes expected time in proportion to the module.
+/// Types the module with this number, counted from 1, and takes its names into those of the program. `At` is
+/// the first rule that is broken, with its line; `Memory` is want of memory. On `Err` nothing is promised of
+/// the names. It takes expected time in proportion to the module.
 pub fn check(
     alloc: Global,
     m: &Module,
