@@ -79,7 +79,7 @@ module _ {S : Type 0} where
     pub act_kept : (q : ℕ) (args : List ℕ) (w : World S) → may q → act_noting no_log prog q args w ≡ act_noting no_log prog1 q args w
     act_kept q args w ok = sym (act_same w (calls_same w.turns) (routine_at prog.routines q) (routine_at prog1.routines q) args (same q ok)).0
 
-  called_routine : (prog : IlProgram) (may : Callable) (r : RoutineParts) (o : Option RoutineParts) → o ≡ Some r → BlocksCallIn may r.blocks
+  pub called_routine : (prog : IlProgram) (may : Callable) (r : RoutineParts) (o : Option RoutineParts) → o ≡ Some r → BlocksCallIn may r.blocks
       → (args : List ℕ) (w : World S) → begin (exec no_log prog (suc w.turns)) o args w ≡ run (called prog) (lengths prog r) r.blocks 0
       (frame_of r.params args) w
   called_routine prog may r o e ok args w = ap (λ (q : Option RoutineParts). begin (exec no_log prog (suc w.turns)) q args w) e

@@ -1,5 +1,5 @@
 -- What it means that a program may stand in place of another.
-use Rattle.std.specs.Prelude.{◌≡◌, ℕ, List, [], ◌∷◌, Some, nat_eq, if◌then◌else◌}
+use Rattle.std.specs.Prelude.{◌≡◌, ℕ, List, Some, map, nat_eq, if◌then◌else◌}
 use Rattle.il_core.specs.declared.program.IlProgram.{IlProgram}
 use Rattle.il_core.specs.Routine.{RoutineParts}
 use Rattle.il_core.specs.Program.{routine_at}
@@ -22,10 +22,10 @@ pub record MayFollow (p p1 : IlProgram) : Type 0 where
   pub act : KeepsAct p p1
   pub valid : IsProgram p1
 
--- the routine with the same PID is replaced
-abbrev pub replaced : RoutineParts → List RoutineParts → List RoutineParts
-replaced r1 [] = []
-replaced r1 (r ∷ rs) = (if nat_eq r.pid r1.pid then r1 else r) ∷ replaced r1 rs
+-- each routine is replaced
+abbrev pub with_each : IlProgram → (RoutineParts → RoutineParts) → IlProgram
+with_each p f = record p { routines = map f p.routines }
 
+-- the routine with the same PID is replaced
 abbrev pub with_routine : IlProgram → RoutineParts → IlProgram
-with_routine p r1 = record p { routines = replaced r1 p.routines }
+with_routine p r1 = with_each p (λ r. if nat_eq r.pid r1.pid then r1 else r)

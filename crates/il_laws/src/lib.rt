@@ -5,4 +5,4 @@
 
 mod keeping;
 
-pub use keeping::valid_runs;
+pub use keeping::{follow_then, replaced_follow, run_kept, valid_runs};
