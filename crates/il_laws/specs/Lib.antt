@@ -1,5 +1,14 @@
 pub mod Blocks
+pub mod Edges
+pub mod Facts
 pub mod Keeping
+pub mod Known
 pub mod Laws
+pub mod Live
+pub mod Merge
+pub mod Propagate
+pub mod Renumber
 pub mod Runs
 pub mod Serving
+pub mod Simplify
+pub mod Unreachable
