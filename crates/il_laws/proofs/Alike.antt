@@ -1,5 +1,5 @@
 -- Runs under calls that are alike: turns never come back, and a bound above the turns left decides nothing.
-use Rattle.std.proofs.Common.{◌≡◌, ℕ, zero, suc, ◌+◌, ◌<◌, ◌≤◌, List, [], ◌∷◌, Bool, true, false, refl, ap, subst, sym, ◌∙◌, arith}
+use Rattle.std.proofs.Common.{◌≡◌, ℕ, zero, suc, ◌<◌, ◌≤◌, List, [], ◌∷◌, Bool, true, false, refl, ap, subst, sym, ◌∙◌, arith}
 use Rattle.std.specs.Prelude.{nat_eq, nat_lt, if◌then◌else◌, Option, Some, None, Result, Ok, Err, ⊤}
 use Rattle.hlo_num.specs.declared.word.Trap.{Trap}
 use Rattle.hlo_num.specs.Operators.{operate}
@@ -103,21 +103,29 @@ module _ {S : Type 0} where
   step_alike may t c e n (Move d s) a b m hc g = record { by = λ f w le. g.by (with_reg f d (f.regs s)) w le }
   step_alike may t c e n (Conv d y s) a b m hc g = record { by = λ f w le. g.by (with_reg f d (convert y (f.regs s))) w le }
   step_alike may t c e n (Bin o d x y) a b m hc g =
-      record { by = λ f w le. word_alike (operate o (f.regs x) (f.regs y)) w (λ v. a (with_reg f d v) w) (λ v. b (with_reg f d v) w)
-        (λ v. g.by (with_reg f d v) w le) }
+      record {
+        by = λ f w le. word_alike (operate o (f.regs x) (f.regs y)) w (λ v. a (with_reg f d v) w) (λ v. b (with_reg f d v) w)
+            (λ v. g.by (with_reg f d v) w le);
+      }
   step_alike may t c e n (Get d q) a b m hc g = record { by = λ f w le. g.by (with_reg f d (w.objects q 0)) w le }
   step_alike may t c e n (Set q s) a b m hc g = record { by = λ f w le. g.by f (with_object w q 0 (f.regs s)) le }
   step_alike may t c e n (GetX d q i) a b m hc g =
-      record { by = λ f w le. if_alike w.turns (nat_lt (f.regs i) (n.object q)) _ _ _ _ (g.by (with_reg f d (w.objects q (f.regs i))) w le)
-        (refl, tt) }
+      record {
+        by = λ f w le. if_alike w.turns (nat_lt (f.regs i) (n.object q)) _ _ _ _ (g.by (with_reg f d (w.objects q (f.regs i))) w le)
+            (refl, tt);
+      }
   step_alike may t c e n (SetX q i s) a b m hc g =
-      record { by = λ f w le. if_alike w.turns (nat_lt (f.regs i) (n.object q)) _ _ _ _ (g.by f (with_object w q (f.regs i) (f.regs s)) le)
-        (refl, tt) }
+      record {
+        by = λ f w le. if_alike w.turns (nat_lt (f.regs i) (n.object q)) _ _ _ _ (g.by f (with_object w q (f.regs i) (f.regs s)) le)
+            (refl, tt);
+      }
   step_alike may t c e n (GetA d x i) a b m hc g =
       record { by = λ f w le. if_alike w.turns (nat_lt (f.regs i) (n.array x)) _ _ _ _ (g.by (with_reg f d (f.arrays x (f.regs i))) w le) (refl, tt) }
   step_alike may t c e n (SetA x i s) a b m hc g =
-      record { by = λ f w le. if_alike w.turns (nat_lt (f.regs i) (n.array x)) _ _ _ _
-        (g.by (record f { arrays = put_element f.arrays x (f.regs i) (f.regs s) }) w le) (refl, tt) }
+      record {
+        by = λ f w le. if_alike w.turns (nat_lt (f.regs i) (n.array x)) _ _ _ _
+            (g.by (record f { arrays = put_element f.arrays x (f.regs i) (f.regs s) }) w le) (refl, tt);
+      }
   step_alike may t c e n (Clear r l x y) a b m hc g = record { by = λ f w le. g.by (cleared f r l x y) w le }
   step_alike may t c e n Turn a b m hc g =
       record { by = λ f w le. turn_alike t w (λ w1. a f w1) (λ w1. b f w1) le (λ w1 lt. g.by f w1 (omega arith)) }
@@ -126,7 +134,7 @@ module _ {S : Type 0} where
         by = λ f w le.
             let q = hc.by p (each f.regs args) w m le in
             let r = return_alike w.turns (c p (each f.regs args) w) (λ v w1. a (received f dest v) w1) (λ v w1. b (received f dest v) w1) q.1
-                (λ v w1 le1. g.by (received f dest v) w1 (omega arith)) in
+            (λ v w1 le1. g.by (received f dest v) w1 (omega arith)) in
             (r.0 ∙ ap (λ (o : Outcome S). with_return o (λ v w1. b (received f dest v) w1)) q.0, r.1);
       }
   step_alike may t c e n (GetChar d) a b m hc g = record { by = λ f w le. g.by (with_reg f d (first_byte w.input)) (after_get w) le }
@@ -159,8 +167,8 @@ module _ {S : Type 0} where
       record {
         by = λ f w le. if_alike w.turns (nat_eq u b) _ _ _ _
             ((does_alike may t c e n x.instrs _ _ m.0 hc
-                    (finish_alike t back _ back1 _ x.end hb
-                  (λ v. record { by = λ f1 w1 le1. (pass_alike may t c e back back1 n xs (suc b) v m.1 hc hb).by f1 w1 le1 }))).by f w le)
+            (finish_alike t back _ back1 _ x.end hb
+            (λ v. record { by = λ f1 w1 le1. (pass_alike may t c e back back1 n xs (suc b) v m.1 hc hb).by f1 w1 le1 }))).by f w le)
             ((pass_alike may t c e back back1 n xs (suc b) u m.1 hc hb).by f w le);
       }
 
@@ -186,13 +194,17 @@ module _ {S : Type 0} where
     exec_alike (suc n) zero r u f w ln lm = absurd (omega arith)
     exec_alike (suc n) (suc m) r u f w ln lm =
         let both = (pass_alike anything w.turns (calls_by prog n) (calls_by prog m) (turned (exec no_log prog n r)) (turned (exec no_log prog m r))
-              (lengths prog r) r.blocks 0 u (anything_blocks r.blocks)
-        (record { by = λ q args w1 ok le. turn_alike w.turns w1 (λ w2. begin (exec no_log prog n) (routine_at prog.routines q) args w2)
-                (λ w2. begin (exec no_log prog m) (routine_at prog.routines q) args w2) le
-            (λ w2 lt. begin_alike w2.turns (exec no_log prog n) (exec no_log prog m) w2
-              (λ r1 f1. exec_alike n m r1 0 f1 w2 (omega arith) (omega arith)) (routine_at prog.routines q) args) })
-        (λ v. record { by = λ f1 w1 le. turn_alike w.turns w1 (λ w2. exec no_log prog n r v f1 w2) (λ w2. exec no_log prog m r v f1 w2) le
-                (λ w2 lt. exec_alike n m r v f1 w2 (omega arith) (omega arith)) })).by f w (omega arith) in
+        (lengths prog r) r.blocks 0 u (anything_blocks r.blocks)
+        (record {
+          by = λ q args w1 ok le. turn_alike w.turns w1 (λ w2. begin (exec no_log prog n) (routine_at prog.routines q) args w2)
+              (λ w2. begin (exec no_log prog m) (routine_at prog.routines q) args w2) le
+              (λ w2 lt. begin_alike w2.turns (exec no_log prog n) (exec no_log prog m) w2
+              (λ r1 f1. exec_alike n m r1 0 f1 w2 (omega arith) (omega arith)) (routine_at prog.routines q) args);
+        })
+        (λ v. record {
+          by = λ f1 w1 le. turn_alike w.turns w1 (λ w2. exec no_log prog n r v f1 w2) (λ w2. exec no_log prog m r v f1 w2) le
+              (λ w2 lt. exec_alike n m r v f1 w2 (omega arith) (omega arith));
+        })).by f w (omega arith) in
         (exec_is prog n r u f w ∙ both.0 ∙ sym (exec_is prog m r u f w), subst (Falls w.turns) (sym (exec_is prog n r u f w)) both.1)
 
     pub act_alike : (n : ℕ) (q : ℕ) (args : List ℕ) (w : World S) → w.turns < n
@@ -202,5 +214,7 @@ module _ {S : Type 0} where
 
     -- calls are alike themselves
     pub calls_fall : (may : Callable) (t : ℕ) → CallsAlike may t (called prog) (called prog)
-    calls_fall may t = record { by = λ q args w ok le. turn_alike t w (λ w1. act_noting no_log prog q args w1)
-          (λ w1. act_noting no_log prog q args w1) le (λ w1 lt. act_alike (suc w1.turns) q args w1 (omega arith)) }
+    calls_fall may t = record {
+      by = λ q args w ok le. turn_alike t w (λ w1. act_noting no_log prog q args w1)
+          (λ w1. act_noting no_log prog q args w1) le (λ w1 lt. act_alike (suc w1.turns) q args w1 (omega arith));
+    }

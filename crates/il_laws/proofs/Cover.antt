@@ -82,14 +82,14 @@ covers (k ∷ ks) ls ms rk ra rb ia ib apart =
           let apart1 : Apart (k ∷ s.rest) ms = subst (λ (l : List ℕ). Apart l ms) s.same apart in
           subst (λ (l : List ℕ). Covers (k ∷ ks) l ms) (sym s.same) (left_first k ks s.rest ms
           (covers ks s.rest ms (above_rises k ks rk) (above_rises k s.rest s.above) rb (rest_behind k ks s.rest inner s.above)
-                (rest_in k ks ms ib (apart1.by k (inl refl))) (record { by = λ q h. apart1.by q (inr h) })))
+          (rest_in k ks ms ib (apart1.by k (inl refl))) (record { by = λ q h. apart1.by q (inr h) })))
       | inr na ↦ elim (first k ks ms rk rb ib) [
         | inl s ↦
             let inner : AllIn (k ∷ s.rest) (k ∷ ks) = subst (λ (l : List ℕ). AllIn l (k ∷ ks)) s.same ib in
             let apart1 : Apart ls (k ∷ s.rest) = subst (λ (l : List ℕ). Apart ls l) s.same apart in
             subst (λ (l : List ℕ). Covers (k ∷ ks) ls l) (sym s.same) (right_first k ks ls s.rest
             (covers ks ls s.rest (above_rises k ks rk) ra (above_rises k s.rest s.above) (rest_in k ks ls ia na)
-                  (rest_behind k ks s.rest inner s.above) (record { by = λ q h h1. apart1.by q h (inr h1) })))
+            (rest_behind k ks s.rest inner s.above) (record { by = λ q h h1. apart1.by q h (inr h1) })))
         | inr nb ↦
             let c = covers ks ls ms (above_rises k ks rk) ra rb (rest_in k ks ls ia na) (rest_in k ks ms ib nb) apart in
             record { few = omega (arith, c.few); all = λ long q h. absurd (omega (arith, c.few)) }

@@ -1,6 +1,6 @@
 -- What is found by its number.
 use Rattle.std.proofs.Common.{◌≡◌, ℕ, zero, suc, ◌<◌, Bool, List, [], ◌∷◌, length, map, get_or, refl, ap, subst, sym, ◌∙◌, arith, inl, inr, eq-eqb, ne_eqb}
-use Rattle.std.specs.Prelude.{◌⊎◌, if◌then◌else◌, Option, Some, None}
+use Rattle.std.specs.Prelude.{if◌then◌else◌, Some}
 use Rattle.std.specs.List.{AllByRecursion}
 use Rattle.std.proofs.lemmas.Bool.{cases_eq}
 use Rattle.std.proofs.lemmas.Option.{none-some}
@@ -29,8 +29,11 @@ module _ {X : Type 0} (number : X → ℕ) where
   in_found q (x ∷ xs) h =
       elim (cases_eq (number x) q) [
         | inl e ↦ record { one = x; is = found_here q x xs e }
-        | inr ne ↦ (elim h [ inl e ↦ absurd (ne (sym e)) | inr h1 ↦
-                (let r = in_found q xs h1 in record { one = r.one; is = found_there q x xs ne ∙ r.is }) ])
+        | inr ne ↦ (elim h [
+          | inl e ↦ absurd (ne (sym e))
+          | inr h1 ↦
+              (let r = in_found q xs h1 in record { one = r.one; is = found_there q x xs ne ∙ r.is })
+        ])
       ]
 
   pub found_all : (P : X → Type 0) (q : ℕ) (xs : List X) (x : X) → AllByRecursion P xs → found number q xs ≡ Some x → P x × (number x ≡ q)

@@ -26,7 +26,7 @@ module _ {S : Type 0} where
   module _ (top bound : ℕ) (a b : ℕ → Next S) (rel : Relation)
       (inside : (t t1 : ℕ) (f g : Frame) → rel t t1 f g → t < bound)
       (one : (m t t1 : ℕ) → m ≤ top → ((u u1 : ℕ) → t < u → Agree m (rel u u1) (a u) (b u1))
-            → ((u u1 : ℕ) → Agree m (rel u u1) (turned a u) (turned b u1)) → Agree m (rel t t1) (a t) (b t1)) where
+      → ((u u1 : ℕ) → Agree m (rel u u1) (turned a u) (turned b u1)) → Agree m (rel t t1) (a t) (b t1)) where
     agree_from : (m left t t1 : ℕ) → m ≤ top → bound ≤ t + left → ((k : ℕ) → k < m → (u u1 : ℕ) → Agree k (rel u u1) (a u) (b u1))
         → Agree m (rel t t1) (a t) (b t1)
     agree_from m zero t t1 most le before = record { by = λ f g w wm r. let lt = inside t t1 f g r in absurd (omega arith) }

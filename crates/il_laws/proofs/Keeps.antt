@@ -1,5 +1,5 @@
 -- A change of bodies that keeps what each body does under the calls of the program as it was keeps every call.
-use Rattle.std.proofs.Common.{◌≡◌, ℕ, zero, suc, ◌<◌, ◌≤◌, List, Option, Some, None, refl, sym, ap, subst, ◌∙◌, arith, length}
+use Rattle.std.proofs.Common.{◌≡◌, ℕ, zero, suc, ◌<◌, ◌≤◌, List, Option, Some, None, refl, sym, ap, subst, ◌∙◌, arith}
 use Rattle.std.specs.Prelude.{⊤}
 use Rattle.il_core.specs.declared.instr.Block.{Block}
 use Rattle.il_core.specs.declared.program.IlProgram.{IlProgram}
@@ -35,12 +35,16 @@ module _ {S : Type 0} where
     exec_is_body t zero r u f w hc ok le lt = absurd (omega arith)
     exec_is_body t (suc m) r u f w hc ok le lt =
         let both = (pass_alike may w.turns (calls_by prog m) c (turned (exec no_log prog m r)) (turned (body c (lengths prog r) r.blocks m))
-              (lengths prog r) r.blocks 0 u ok
-        (record { by = λ q args w1 may1 le1. let a = turn_alike w.turns w1 (λ w2. begin (exec no_log prog m) (routine_at prog.routines q) args w2)
-                (λ w2. act_noting no_log prog q args w2) le1 (λ w2 lt2. act_alike prog m q args w2 (omega arith)) in
-            (a.0 ∙ (hc.by q args w1 may1 (omega arith)).0, a.1) })
-        (λ v. record { by = λ f1 w1 le1. turn_alike w.turns w1 (λ w2. exec no_log prog m r v f1 w2) (λ w2. body c (lengths prog r) r.blocks m v f1 w2)
-                le1 (λ w2 lt2. exec_is_body t m r v f1 w2 hc ok (omega arith) (omega arith)) })).by f w (omega arith) in
+        (lengths prog r) r.blocks 0 u ok
+        (record {
+          by = λ q args w1 may1 le1. let a = turn_alike w.turns w1 (λ w2. begin (exec no_log prog m) (routine_at prog.routines q) args w2)
+              (λ w2. act_noting no_log prog q args w2) le1 (λ w2 lt2. act_alike prog m q args w2 (omega arith)) in
+              (a.0 ∙ (hc.by q args w1 may1 (omega arith)).0, a.1);
+        })
+        (λ v. record {
+          by = λ f1 w1 le1. turn_alike w.turns w1 (λ w2. exec no_log prog m r v f1 w2) (λ w2. body c (lengths prog r) r.blocks m v f1 w2)
+              le1 (λ w2 lt2. exec_is_body t m r v f1 w2 hc ok (omega arith) (omega arith));
+        })).by f w (omega arith) in
         (exec_is prog m r u f w ∙ both.0, subst (Falls w.turns) (sym (exec_is prog m r u f w)) both.1)
 
   -- an outcome of a call is the callee's blocks under the program's calls
@@ -63,17 +67,21 @@ module _ {S : Type 0} where
         let here : frame_of r.params args ≡ frame_of r1.params args = ap (λ (k : ℕ). frame_of k args) (sym h.params) in
         let there = ap (λ (f : Frame). run (called prog) (lengths prog1 r1) r1.blocks 0 f w) here in
         let b = exec_is_body prog1 may (called prog) w.turns (suc w.turns) r1 0 (frame_of r1.params args) w hc h.calls1
-            (omega arith) (omega arith) in
+        (omega arith) (omega arith) in
         (b.0 ∙ sym there ∙ sym (h.by args w) ∙ sym a.0, b.1)
 
     calls_same : (t : ℕ) → CallsAlike {S = S} may t (called prog1) (called prog)
-    calls_same zero = record { by = λ q args w ok le. turn_alike 0 w (λ w2. act_noting no_log prog1 q args w2)
-          (λ w2. act_noting no_log prog q args w2) le (λ w2 lt. absurd (omega arith)) }
+    calls_same zero = record {
+      by = λ q args w ok le. turn_alike 0 w (λ w2. act_noting no_log prog1 q args w2)
+          (λ w2. act_noting no_log prog q args w2) le (λ w2 lt. absurd (omega arith));
+    }
     calls_same (suc t) =
         let ih = calls_same t in
-        record { by = λ q args w ok le. turn_alike (suc t) w (λ w2. act_noting no_log prog1 q args w2) (λ w2. act_noting no_log prog q args w2) le
+        record {
+          by = λ q args w ok le. turn_alike (suc t) w (λ w2. act_noting no_log prog1 q args w2) (λ w2. act_noting no_log prog q args w2) le
               (λ w2 lt. act_same w2 (fewer may t w2.turns (called prog1) (called prog) (omega arith) ih) (routine_at prog.routines q)
-              (routine_at prog1.routines q) args (same q ok)) }
+              (routine_at prog1.routines q) args (same q ok));
+        }
 
     -- the change keeps `act`
     pub act_kept : (q : ℕ) (args : List ℕ) (w : World S) → may q → act_noting no_log prog q args w ≡ act_noting no_log prog1 q args w
@@ -99,8 +107,10 @@ module _ {S : Type 0} where
     body_alike (suc m) zero u f w lm ll = absurd (omega arith)
     body_alike (suc m) (suc l) u f w lm ll =
         (pass_alike may w.turns c c (turned (body c n bs m)) (turned (body c n bs l)) n bs 0 u ok (falls w.turns)
-              (λ v. record { by = λ f1 w1 le. turn_alike w.turns w1 (λ w2. body c n bs m v f1 w2) (λ w2. body c n bs l v f1 w2) le
-                (λ w2 lt. body_alike m l v f1 w2 (omega arith) (omega arith)) })).by f w (omega arith)
+        (λ v. record {
+          by = λ f1 w1 le. turn_alike w.turns w1 (λ w2. body c n bs m v f1 w2) (λ w2. body c n bs l v f1 w2) le
+              (λ w2 lt. body_alike m l v f1 w2 (omega arith) (omega arith));
+        })).by f w (omega arith)
 
     pub run_falls : (u : ℕ) (f : Frame) (w : World S) → Falls w.turns (run c n bs u f w)
     run_falls u f w = (body_alike (suc w.turns) (suc w.turns) u f w (omega arith) (omega arith)).1
@@ -108,5 +118,7 @@ module _ {S : Type 0} where
     pub run_is : (u : ℕ) (f : Frame) (w : World S) → run c n bs u f w ≡ pass c (turned (run c n bs)) n bs 0 u f w
     run_is u f w =
         ((pass_alike may w.turns c c (turned (body c n bs w.turns)) (turned (run c n bs)) n bs 0 u ok (falls w.turns)
-                (λ v. record { by = λ f1 w1 le. turn_alike w.turns w1 (λ w2. body c n bs w.turns v f1 w2) (λ w2. run c n bs v f1 w2) le
-                (λ w2 lt. body_alike w.turns (suc w2.turns) v f1 w2 lt (omega arith)) })).by f w (omega arith)).0
+        (λ v. record {
+          by = λ f1 w1 le. turn_alike w.turns w1 (λ w2. body c n bs w.turns v f1 w2) (λ w2. run c n bs v f1 w2) le
+              (λ w2 lt. body_alike w.turns (suc w2.turns) v f1 w2 lt (omega arith));
+        })).by f w (omega arith)).0

@@ -47,7 +47,7 @@ forward_map v d (x ∷ xs) h =
     let here : d + 0 ≡ d = omega arith in (
       subst (λ (t : ℕ). IsForward t (v x).end) here (h 0 x refl),
       forward_map v (suc d) xs (λ i y e. let there : d + suc i ≡ suc d + i = omega arith in subst (λ (t : ℕ). IsForward t (v y).end) there
-            (h (suc i) y e)),
+          (h (suc i) y e)),
     )
 
 -- what a valid routine says of its block b

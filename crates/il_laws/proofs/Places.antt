@@ -4,7 +4,7 @@ use Rattle.std.specs.Prelude.{if◌then◌else◌, Option, Some, None, ⊤}
 use Rattle.il_core.specs.declared.instr.Block.{Block}
 use Rattle.il_core.specs.declared.instr.End.{End}
 use Rattle.il_core.specs.declared.instr.End.TheVariants as ends
-use Rattle.il_core.specs.World.{World, OutOfTurns, Stuck, ended, turn_at, choose}
+use Rattle.il_core.specs.World.{Stuck, choose}
 use Rattle.il_core.specs.Meaning.{Frame, Lengths, Next, finish}
 use Rattle.il_laws.specs.Runs.{Calls, Callable, BlocksCallIn, does, pass, turned, run}
 use Rattle.il_laws.proofs.Alike.{CallsAlike}
@@ -65,7 +65,7 @@ module _ {S : Type 0} where
 
     pass_later : (x : Block) (xs : List Block) (b t : ℕ) → b < t → pass c back n (x ∷ xs) b t ≡ pass c back n xs (suc b) t
     pass_later x xs b t lt = ap (λ (k : Bool). λ f w. if k then block_does c n back (pass c back n xs (suc b)) x f w else pass c back n xs
-          (suc b) t f w) (ne_eqb t b (omega arith))
+        (suc b) t f w) (ne_eqb t b (omega arith))
 
     later_block : (x : Block) (xs : List Block) (b i : ℕ) (o : Option Block) → AreForward (suc b) xs → slice_get xs i ≡ o
         → if_block c n back (pass c back n xs (suc b)) o ≡ if_block c n back (pass c back n (x ∷ xs) b) o
@@ -79,11 +79,11 @@ module _ {S : Type 0} where
     pass_at (x ∷ xs) b zero fw =
         let same : b + 0 ≡ b = omega arith in
         ap (λ (t : ℕ). pass c back n (x ∷ xs) b t) same ∙ pass_here x xs b ∙ block_on b c n back (pass c back n xs (suc b))
-            (pass c back n (x ∷ xs) b) x fw.0 (λ u lt. sym (pass_later x xs b u lt))
+        (pass c back n (x ∷ xs) b) x fw.0 (λ u lt. sym (pass_later x xs b u lt))
     pass_at (x ∷ xs) b (suc i) fw =
         let same : b + suc i ≡ suc b + i = omega arith in
         pass_later x xs b (b + suc i) (omega arith) ∙ ap (λ (t : ℕ). pass c back n xs (suc b) t) same ∙ pass_at xs (suc b) i fw.1
-            ∙ later_block x xs b i (slice_get xs i) fw.1 refl
+        ∙ later_block x xs b i (slice_get xs i) fw.1 refl
 
   -- The run from a block by its number: the block, and the run from the block that its end names.
   module _ (may : Callable) (c : Calls S) (falls : (t : ℕ) → CallsAlike may t c c) (n : Lengths) (bs : List Block) (ok : BlocksCallIn may bs)

@@ -61,10 +61,14 @@ module _ (p : IlProgram) (valid : IsProgram p) where
       (rising (λ row. row.pid) p.shapes valid.rows)
       (rising (λ o. o.pid) p.objects valid.objects)
       (rising (λ r. r.pid) p.routines valid.routines)
-      (record { by = λ q h. let s : ShapedAs p.shapes object_shape q = in_shaped p.shapes (λ o. o.pid) object_shape q p.objects valid.shapes.objects
-              h in shaped p.shapes q (object_shape s.one) s.is })
-      (record { by = λ q h. let s : ShapedAs p.shapes routine_shape q = in_shaped p.shapes (λ r. r.pid) routine_shape q p.routines
-              valid.shapes.routines h in shaped p.shapes q (routine_shape s.one) s.is })
+      (record {
+        by = λ q h. let s : ShapedAs p.shapes object_shape q = in_shaped p.shapes (λ o. o.pid) object_shape q p.objects valid.shapes.objects
+            h in shaped p.shapes q (object_shape s.one) s.is;
+      })
+      (record {
+        by = λ q h. let s : ShapedAs p.shapes routine_shape q = in_shaped p.shapes (λ r. r.pid) routine_shape q p.routines
+            valid.shapes.routines h in shaped p.shapes q (routine_shape s.one) s.is;
+      })
       (record {
         by = λ q h h1.
             let s : ShapedAs p.shapes object_shape q = in_shaped p.shapes (λ o. o.pid) object_shape q p.objects valid.shapes.objects h in
@@ -96,10 +100,10 @@ module _ (p : IlProgram) (valid : IsProgram p) where
         | inr h ↦ (
             let f = in_found (λ (r : RoutineParts). r.pid) q p.routines h in
             let here = found_all (λ (r : RoutineParts). r.pid) (λ r. shape_at p.shapes r.pid ≡ Some (routine_shape r)) q p.routines f.one
-                valid.shapes.routines f.is in
+            valid.shapes.routines f.is in
             let each = found_all (λ (r : RoutineParts). r.pid) (IsValid p.shapes) q p.routines f.one valid.each f.is in
             let same : shape.Routine f.one.params f.one.value ≡ shape.Routine n v =
-                same_Some _ _ (sym here.0 ∙ ap (λ (k : ℕ). shape_at p.shapes k) here.1 ∙ e) in
+            same_Some _ _ (sym here.0 ∙ ap (λ (k : ℕ). shape_at p.shapes k) here.1 ∙ e) in
             record { routine = f.one; is = f.is; params = cc; value = cc; is_valid = each.0 })
       ]
 
@@ -134,9 +138,9 @@ module _ (p : IlProgram) (valid : IsProgram p) where
   pub pid_small : (q : ℕ) (r : RoutineParts) → routine_at p.routines q ≡ Some r → q < 2 ^ 17
   pid_small q r is =
       let here = found_all (λ (r : RoutineParts). r.pid) (λ r. shape_at p.shapes r.pid ≡ Some (routine_shape r)) q p.routines r valid.shapes.routines
-          is in
+      is in
       let row = in_found (λ (row : ShapeRow). row.pid) q p.shapes
-          (shaped p.shapes q (routine_shape r) (sym (ap (λ (k : ℕ). shape_at p.shapes k) here.1) ∙ here.0)) in
+      (shaped p.shapes q (routine_shape r) (sym (ap (λ (k : ℕ). shape_at p.shapes k) here.1) ∙ here.0)) in
       let pid = found_all (λ (row : ShapeRow). row.pid) (λ row. IsPid row.pid) q p.shapes row.one valid.pids row.is in
       subst (λ (n : ℕ). n < 2 ^ 17) pid.1 pid.0
 

@@ -16,8 +16,8 @@ use Rattle.il_core.specs.Routine.{RoutineParts}
 use Rattle.il_core.specs.Program.{main_pid}
 use Rattle.il_core.specs.Valid.{IsProgram, IsValid, IsValidEnd, AreValidBlocks}
 use Rattle.il_core.specs.World.{World, Outcome, Returns, Ends, Stuck, OutOfTurns, ended, first_byte, after_get, low_byte, after_put, turn_at, choose, put_element, with_object, each, with_word, with_return}
-use Rattle.il_core.specs.Meaning.{Frame, with_reg, frame_of, cleared, received, Lengths, lengths, Next, step, finish, no_log, act_noting, act, at_start, Run, run_of, il_run}
-use Rattle.il_laws.specs.Runs.{Calls, silent, does, pass, turned, body, run, called, Callable, IsCallIn, CallsIn, BlocksCallIn}
+use Rattle.il_core.specs.Meaning.{Frame, with_reg, frame_of, cleared, received, Lengths, lengths, Next, step, finish, no_log, act_noting, act, at_start, Run, run_of}
+use Rattle.il_laws.specs.Runs.{Calls, silent, does, pass, turned, body, called, Callable, IsCallIn, CallsIn, BlocksCallIn}
 use Rattle.il_laws.specs.Keeping.{Stands}
 use Rattle.il_laws.specs.Laws.{HasRun}
 use Rattle.il_laws.proofs.Keeps.{called_routine}
@@ -120,10 +120,10 @@ module _ {S : Type 0} where
           let later : ℕ → Next S = λ v f w. pass c back n xs (suc b) v f w in
           let first : Next S = λ f w. does c n x.instrs (λ f1 w1. finish back later x.end f1 w1) f w in
           let ahead : (v : ℕ) → b < v → v < length r.blocks → Goes t (later v) =
-              λ v less lv. record { by = λ f w le1. (pass_done xs (suc b) v rest calls.1 (omega arith) (omega arith) lv).by f w le1 } in
+          λ v less lv. record { by = λ f w le1. (pass_done xs (suc b) v rest calls.1 (omega arith) (omega arith) lv).by f w le1 } in
           let here : Goes t first =
-              does_done x.instrs (λ f1 w1. finish back later x.end f1 w1) calls.0
-              (finish_done r.regs r.value (length r.blocks) b back later x.end (omega arith) ok.1 hb ahead) in
+          does_done x.instrs (λ f1 w1. finish back later x.end f1 w1) calls.0
+          (finish_done r.regs r.value (length r.blocks) b back later x.end (omega arith) ok.1 hb ahead) in
           elim (cases_eq u b) [
             | inl e ↦ record {
               by = λ f w le1. subst (λ (k : Bool). Done w.turns (if k then first f w else later u f w)) (sym (eq-eqb u b e)) (here.by f w le1);
@@ -141,8 +141,10 @@ module _ (S : Type 0) (p : IlProgram) (valid : IsProgram p) where
   body_done t (suc m) r u f w hc ok lm le lt =
       let run1 = body (called p) (lengths p r) r.blocks m in
       (pass_done (Stands p) w.turns (called p) (record { by = λ q args w1 le1 s. hc.by q args w1 (omega arith) s }) (lengths p r) p r (turned run1)
-      (λ v lv. record { by = λ f1 w1 le1. turn_done w.turns w1.turns w1 (λ w2. run1 v f1 w2) le1
-              (λ w2 l2. body_done t m r v f1 w2 hc ok (omega arith) (omega arith) lv) })
+      (λ v lv. record {
+        by = λ f1 w1 le1. turn_done w.turns w1.turns w1 (λ w2. run1 v f1 w2) le1
+            (λ w2 l2. body_done t m r v f1 w2 hc ok (omega arith) (omega arith) lv);
+      })
       r.blocks 0 u ok.blocks (valid_calls p valid r ok) (omega arith) (omega arith) lt).by f w (omega arith)
 
   act_done : (q : ℕ) (args : List ℕ) (w : World S) → CallsGo {S = S} (Stands p) w.turns (called p) → Stands p q

@@ -1,5 +1,5 @@
 -- Two runs of the same instruction are the same where what follows is, from each frame that the instruction can leave.
-use Rattle.std.proofs.Common.{◌≡◌, ℕ, zero, suc, ◌<◌, ◌≤◌, List, [], ◌∷◌, refl, ap, arith}
+use Rattle.std.proofs.Common.{◌≡◌, ℕ, zero, suc, ◌<◌, ◌≤◌, List, [], ◌∷◌, ◌++◌, refl, ap, arith}
 use Rattle.std.specs.Prelude.{Result, Ok, Err}
 use Rattle.hlo_num.specs.declared.word.Trap.{Trap}
 use Rattle.hlo_num.specs.Operators.{operate}
@@ -30,6 +30,10 @@ Leaves (GetChar d) f f1 = (v : ℕ) × (f1 ≡ with_reg f d v)
 Leaves (PutChar d s) f f1 = (v : ℕ) × (f1 ≡ with_reg f d v)
 
 module _ {S : Type 0} where
+  pub does_append : (c : Calls S) (n : Lengths) (is js : List Instr) (go : Next S) → does c n (is ++ js) go ≡ does c n is (λ f w. does c n js go f w)
+  does_append c n [] js go = refl
+  does_append c n (i ∷ is) js go = ap (λ (g : Next S). step (silent c) n 0 i (λ f1 w1. g f1 w1)) (does_append c n is js go)
+
   -- the same from a frame on, with at most t turns left
   pub record SameAt (t : ℕ) (a b : Next S) (f : Frame) : Type 0 where
     pub by : (w : World S) → w.turns ≤ t → a f w ≡ b f w
@@ -63,21 +67,29 @@ module _ {S : Type 0} where
     step_at t (Get d q) a b f h = record { by = λ w le. (h (with_reg f d (w.objects q 0)) (w.objects q 0, refl)).by w le }
     step_at t (Set q s) a b f h = record { by = λ w le. (h f refl).by (with_object w q 0 (f.regs s)) le }
     step_at t (GetX d q i) a b f h =
-        record { by = λ w le. within_at (f.regs i) (n.object q) w _ _
-          ((h (with_reg f d (w.objects q (f.regs i))) (w.objects q (f.regs i), refl)).by w le) }
+        record {
+          by = λ w le. within_at (f.regs i) (n.object q) w _ _
+              ((h (with_reg f d (w.objects q (f.regs i))) (w.objects q (f.regs i), refl)).by w le);
+        }
     step_at t (SetX q i s) a b f h =
         record { by = λ w le. within_at (f.regs i) (n.object q) w _ _ ((h f refl).by (with_object w q (f.regs i) (f.regs s)) le) }
     step_at t (GetA d x i) a b f h =
-        record { by = λ w le. within_at (f.regs i) (n.array x) w _ _
-          ((h (with_reg f d (f.arrays x (f.regs i))) (f.arrays x (f.regs i), refl)).by w le) }
+        record {
+          by = λ w le. within_at (f.regs i) (n.array x) w _ _
+              ((h (with_reg f d (f.arrays x (f.regs i))) (f.arrays x (f.regs i), refl)).by w le);
+        }
     step_at t (SetA x i s) a b f h =
-        record { by = λ w le. within_at (f.regs i) (n.array x) w _ _
-          ((h (record f { arrays = put_element f.arrays x (f.regs i) (f.regs s) }) refl).by w le) }
+        record {
+          by = λ w le. within_at (f.regs i) (n.array x) w _ _
+              ((h (record f { arrays = put_element f.arrays x (f.regs i) (f.regs s) }) refl).by w le);
+        }
     step_at t (Clear r l x y) a b f h = record { by = λ w le. (h (cleared f r l x y) refl).by w le }
     step_at t Turn a b f h = record { by = λ w le. turn_at_at t w.turns w (λ w1. a f w1) (λ w1. b f w1) le (λ w1 lt. (h f refl).by w1 (omega arith)) }
     step_at t (Call dest p count args) a b f h =
-        record { by = λ w le. return_at w.turns (c p (each f.regs args) w) _ _ ((falls w.turns).by p (each f.regs args) w tt (omega arith)).1
-              (λ v w1 l1. (h (received f dest v) (v, refl)).by w1 (omega arith)) }
+        record {
+          by = λ w le. return_at w.turns (c p (each f.regs args) w) _ _ ((falls w.turns).by p (each f.regs args) w tt (omega arith)).1
+              (λ v w1 l1. (h (received f dest v) (v, refl)).by w1 (omega arith));
+        }
     step_at t (GetChar d) a b f h = record { by = λ w le. (h (with_reg f d (first_byte w.input)) (first_byte w.input, refl)).by (after_get w) le }
     step_at t (PutChar d s) a b f h =
         record { by = λ w le. (h (with_reg f d (low_byte (f.regs s))) (low_byte (f.regs s), refl)).by (after_put (f.regs s) w) le }
@@ -85,5 +97,7 @@ module _ {S : Type 0} where
     -- the same instructions, where what follows is the same from everywhere
     pub does_at : (t : ℕ) (is : List Instr) (a b : Next S) → ((f : Frame) → SameAt t a b f) → (f : Frame) → SameAt t (does c n is a) (does c n is b) f
     does_at t [] a b h f = record { by = λ w le. (h f).by w le }
-    does_at t (i ∷ is) a b h f = record { by = λ w le. (step_at t i _ _ f (λ f1 l. record { by = λ w1 l1. (does_at t is a b h f1).by w1 l1 })).by w
-          le }
+    does_at t (i ∷ is) a b h f = record {
+      by = λ w le. (step_at t i _ _ f (λ f1 l. record { by = λ w1 l1. (does_at t is a b h f1).by w1 l1 })).by w
+          le;
+    }

@@ -1,11 +1,10 @@
 -- Routines replaced by others that serve in their place.
-use Rattle.std.proofs.Common.{◌≡◌, ℕ, zero, suc, ◌<◌, ◌≤◌, ◌^◌, List, [], ◌∷◌, Bool, length, map, get_or, refl, ap, subst, sym, ◌∙◌, arith, inl, inr, eq-eqb, ne_eqb}
+use Rattle.std.proofs.Common.{◌≡◌, ℕ, suc, ◌<◌, List, [], ◌∷◌, Bool, length, map, get_or, refl, ap, subst, sym, ◌∙◌, arith, inl, inr, eq-eqb, ne_eqb}
 use Rattle.std.specs.Prelude.{nat_eq, if◌then◌else◌, Option, Some, None, option_map}
 use Rattle.std.specs.List.{AllByRecursion}
 use Rattle.std.proofs.lemmas.Bool.{cases_eq}
 use Rattle.std.proofs.lemmas.List.{length-map}
-use Rattle.std.proofs.lemmas.Option.{none-some, same_Some}
-use Rattle.il_core.specs.declared.shape.ShapeRow.{ShapeRow}
+use Rattle.std.proofs.lemmas.Option.{same_Some}
 use Rattle.il_core.specs.declared.shape.Shape.TheVariants as shape
 use Rattle.il_core.specs.declared.program.IlProgram.{IlProgram}
 use Rattle.il_core.specs.Object.{ObjectParts}
@@ -13,7 +12,7 @@ use Rattle.il_core.specs.Routine.{RoutineParts}
 use Rattle.il_core.specs.Program.{found, routine_at, shape_at, main_pid}
 use Rattle.il_core.specs.Shapes.{IsRising, IsRisingFrom}
 use Rattle.il_core.specs.Valid.{IsProgram, IsValid}
-use Rattle.il_core.specs.World.{World, Outcome}
+use Rattle.il_core.specs.World.{World}
 use Rattle.il_core.specs.Meaning.{Frame, frame_of, lengths, act, at_start, run_of, il_run}
 use Rattle.il_laws.specs.Keeping.{Stands, KeepsAct, MayFollow, with_each, with_routine}
 use Rattle.il_laws.specs.Runs.{run, called}
@@ -91,8 +90,11 @@ module _ (p : IlProgram) (valid : IsProgram p) (f : RoutineParts → RoutinePart
 
   known : AllByRecursion Known p.routines
   known = each_found (λ r. r.pid) Known p.routines valid.routines (λ q r e.
-      record { serves = serve q r e; shaped = ap (λ (k : ℕ). shape_at p.shapes k) (found_number (λ r. r.pid) q p.routines r e)
-            ∙ shape_is p valid q r e })
+      record {
+        serves = serve q r e;
+        shaped = ap (λ (k : ℕ). shape_at p.shapes k) (found_number (λ r. r.pid) q p.routines r e)
+            ∙ shape_is p valid q r e;
+      })
 
   pids : Keeps (λ r. r.pid) f p.routines
   pids = all_one Known (λ r. (f r).pid ≡ r.pid) p.routines (λ r k. k.serves.pid) known
@@ -129,8 +131,13 @@ module _ (p : IlProgram) (valid : IsProgram p) (f : RoutineParts → RoutinePart
   same_of q None e = tt
   same_of q (Some r) e =
       let s = serve q r e in
-      record { params = s.params; calls = valid_calls p valid r (routine_valid p valid q r e); calls1 = valid_calls p valid (f r) s.valid; by =
-            s.same }
+      record {
+        params = s.params;
+        calls = valid_calls p valid r (routine_valid p valid q r e);
+        calls1 = valid_calls p valid (f r) s.valid;
+        by =
+            s.same;
+      }
 
   same_at : (q : ℕ) → SameRoutine (Unit {0}) p (with_each p f) (Stands p) (routine_at p.routines q) (routine_at (map f p.routines) q)
   same_at q =
@@ -148,15 +155,15 @@ pub routine_follows : (p : IlProgram) → IsProgram p → (x : ℕ) (r r1 : Rout
     → MayFollow p (with_routine p r1)
 routine_follows p valid x r r1 e s =
     each_follows p valid (λ z. if nat_eq z.pid r1.pid then r1 else z) (λ y z ez.
-        elim (cases_eq z.pid r1.pid) [
-          | inl same ↦
-              let here : y ≡ x = sym (found_number (λ z. z.pid) y p.routines z ez) ∙ same ∙ s.pid ∙ found_number (λ z. z.pid) x p.routines r e in
-              let one : z ≡ r = same_Some z r (sym ez ∙ ap (λ (n : ℕ). routine_at p.routines n) here ∙ e) in
-              subst (λ (k : Bool). Serves p z (if k then r1 else z)) (sym (eq-eqb z.pid r1.pid same))
-                  (subst (λ (q : RoutineParts). Serves p q r1) (sym one) s)
-          | inr ne ↦ subst (λ (k : Bool). Serves p z (if k then r1 else z)) (sym (ne_eqb z.pid r1.pid ne))
-              (serves_itself p z (routine_valid p valid y z ez))
-        ])
+    elim (cases_eq z.pid r1.pid) [
+      | inl same ↦
+          let here : y ≡ x = sym (found_number (λ z. z.pid) y p.routines z ez) ∙ same ∙ s.pid ∙ found_number (λ z. z.pid) x p.routines r e in
+          let one : z ≡ r = same_Some z r (sym ez ∙ ap (λ (n : ℕ). routine_at p.routines n) here ∙ e) in
+          subst (λ (k : Bool). Serves p z (if k then r1 else z)) (sym (eq-eqb z.pid r1.pid same))
+          (subst (λ (q : RoutineParts). Serves p q r1) (sym one) s)
+      | inr ne ↦ subst (λ (k : Bool). Serves p z (if k then r1 else z)) (sym (ne_eqb z.pid r1.pid ne))
+          (serves_itself p z (routine_valid p valid y z ez))
+    ])
 
 pub keeps_then : (p p1 p2 : IlProgram) → ((x : ℕ) → Stands p x → Stands p2 x → Stands p1 x) → KeepsAct p p1 → KeepsAct p1 p2 → KeepsAct p p2
 keeps_then p p1 p2 between a b = record { by = λ x s s2 args w. let s1 = between x s s2 in a.by x s s1 args w ∙ b.by x s1 s2 args w }

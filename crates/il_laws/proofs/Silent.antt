@@ -36,6 +36,6 @@ module _ {S : Type 0} where
   enter_silent c back n (x ∷ xs) b k =
       let later = enter_silent c back n xs (suc b) (sites_of x.instrs + k) in
       ap (λ (on : ℕ → Next S). λ t f w. if nat_eq t b then steps (silent c) n k x.instrs (λ f1 w1. finish back on x.end f1 w1) f w else on t f w)
-          later
+      later
       ∙ ap (λ (s : Next S). λ t f w. if nat_eq t b then s f w else pass c back n xs (suc b) t f w)
-          (steps_silent c n k x.instrs (λ f1 w1. finish back (λ u f2 w2. pass c back n xs (suc b) u f2 w2) x.end f1 w1))
+      (steps_silent c n k x.instrs (λ f1 w1. finish back (λ u f2 w2. pass c back n xs (suc b) u f2 w2) x.end f1 w1))

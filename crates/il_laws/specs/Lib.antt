@@ -11,4 +11,5 @@ pub mod Renumber
 pub mod Runs
 pub mod Serving
 pub mod Simplify
+pub mod SimplifyLaws
 pub mod Unreachable

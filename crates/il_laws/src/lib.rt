@@ -4,5 +4,10 @@
 #![tactic(auto)]
 
 mod keeping;
+mod simplifying;
 
 pub use keeping::{follow_then, replaced_follow, run_kept, valid_runs};
+pub use simplifying::{
+    drop_dead_writes_keeps, drop_unreachable_keeps, fold_branches_keeps, merge_blocks_keeps,
+    propagate_keeps, simplify_keeps,
+};
