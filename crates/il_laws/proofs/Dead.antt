@@ -1,5 +1,5 @@
 -- Instructions without those that write only what isn't live.
-use Rattle.std.proofs.Common.{◌≡◌, ℕ, zero, suc, ◌+◌, ◌<◌, ◌≤◌, ◌⊎◌, List, [], ◌∷◌, Bool, true, false, refl, ap, ap₂, sym, ◌∙◌, arith, ne_eqb, eqb-true, ltb-true, inl, inr}
+use Rattle.std.proofs.Common.{◌≡◌, ℕ, zero, suc, ◌+◌, ◌<◌, ◌≤◌, List, [], ◌∷◌, Bool, true, false, refl, ap, ap₂, sym, ◌∙◌, arith, ne_eqb, eqb-true, ltb-true, inl, inr}
 use Rattle.std.specs.Prelude.{nat_eq, nat_lt, nat_le, not, if◌then◌else◌, ◌&&◌, ◌||◌, Result, Ok}
 use Rattle.std.proofs.lemmas.Bool.{cases_lt, cases_eq, leb-true}
 use Rattle.std.proofs.lemmas.Bool.Decides.{nat_tests}
@@ -12,28 +12,13 @@ use Rattle.il_core.specs.declared.instr.Instr.{Instr}
 use Rattle.il_core.specs.declared.instr.Instr.TheVariants.{Const, Move, Conv, Bin, Get, Set, GetX, SetX, GetA, SetA, Clear, Turn, Call, GetChar, PutChar}
 use Rattle.il_core.specs.World.{with_word}
 use Rattle.il_core.specs.Meaning.{Frame, with_reg, cleared, is_among, Lengths, Next, step}
-use Rattle.il_laws.specs.Facts.{writes}
-use Rattle.il_laws.specs.Live.{reads, may_trap, Live, none_live, is_dead, live_through, alive}
+use Rattle.il_core.specs.Operands.{reads, writes, operator_can_trap}
+use Rattle.il_laws.specs.Live.{Live, some_live, is_dead, live_through, alive}
+use Rattle.il_laws.proofs.Tests.{or_yes, or_first, or_second, and_left, and_right, not_true}
 use Rattle.il_laws.specs.Runs.{Calls, silent, does}
 use Rattle.il_laws.proofs.Alike.{CallsAlike, anything}
 use Rattle.il_laws.proofs.Induction.{Agree}
-use Rattle.il_laws.proofs.Needs.{SameLive, Needs, or_yes, step_kept}
-
-not_true : (k : Bool) → not k ≡ true → k ≡ false
-not_true true e = sym e
-not_true false e = refl
-
-pub and_left : (a b : Bool) → (a && b) ≡ true → a ≡ true
-and_left true b e = refl
-and_left false b e = e
-
-pub and_right : (a b : Bool) → (a && b) ≡ true → b ≡ true
-and_right true b e = e
-and_right false b e = let bad : false ≡ true = e in absurd cc
-
-pub or_either : (a b : Bool) → (a || b) ≡ true → (a ≡ true) ⊎ (b ≡ true)
-or_either true b e = inl refl
-or_either false b e = inr e
+use Rattle.il_laws.proofs.Needs.{SameLive, Needs, step_kept}
 
 -- a write to a register that isn't live
 dead_put : (live : Live) (f g : Frame) (d v : ℕ) → live d ≡ false → SameLive live f g → SameLive live (with_reg f d v) g
@@ -46,15 +31,15 @@ dead_put live f g d v dead h =
       arrays = h.arrays;
     }
 
-none_at : (live : Live) (r c x : ℕ) → none_live live r c ≡ true → r ≤ x → x < r + c → live x ≡ false
+none_at : (live : Live) (r c x : ℕ) → some_live live r c ≡ false → r ≤ x → x < r + c → live x ≡ false
 none_at live r zero x h le lt = absurd (omega arith)
 none_at live r (suc c) x h le lt =
     elim (cases_lt r x) [
-      | inl less ↦ none_at live (suc r) c x (and_right (not (live r)) (none_live live (suc r) c) h) less (omega arith)
-      | inr ge ↦ (let same : x ≡ r = omega arith in ap live same ∙ not_true (live r) (and_left (not (live r)) (none_live live (suc r) c) h))
+      | inl less ↦ none_at live (suc r) c x (or_second (live r) (some_live live (suc r) c) h) less (omega arith)
+      | inr ge ↦ (let same : x ≡ r = omega arith in ap live same ∙ or_first (live r) (some_live live (suc r) c) h)
     ]
 
-dead_reg : (live : Live) (f g : Frame) (r c x : ℕ) (k : Bool) → is_among r c x ≡ k → none_live live r c ≡ true → SameLive live f g → live x ≡ true
+dead_reg : (live : Live) (f g : Frame) (r c x : ℕ) (k : Bool) → is_among r c x ≡ k → some_live live r c ≡ false → SameLive live f g → live x ≡ true
     → (if k then 0 else f.regs x) ≡ g.regs x
 dead_reg live f g r c x true e h a l =
     let le = leb-true r x (and_left (nat_le r x) (nat_lt x (r + c)) e) in
@@ -65,7 +50,7 @@ dead_reg live f g r c x false e h a l = a.reg x l
 no_array : (a m x : ℕ) → m ≡ 0 → is_among a m x ≡ false
 no_array a m x e = grind (arith, nat_tests)
 
-dead_clear : (live : Live) (f g : Frame) (r c a m : ℕ) → m ≡ 0 → none_live live r c ≡ true → SameLive live f g → SameLive live (cleared f r c a m) g
+dead_clear : (live : Live) (f g : Frame) (r c a m : ℕ) → m ≡ 0 → some_live live r c ≡ false → SameLive live f g → SameLive live (cleared f r c a m) g
 dead_clear live f g r c a m zero_m h al =
     record {
       reg = λ x l. dead_reg live f g r c x (is_among r c x) refl h al l;
@@ -73,7 +58,7 @@ dead_clear live f g r c a m zero_m h al =
     }
 
 -- operators that don't trap give a word
-gives : (o : Op) (a b : ℕ) → may_trap o ≡ false → (v : ℕ) × (operate o a b ≡ Ok v)
+gives : (o : Op) (a b : ℕ) → operator_can_trap o ≡ false → (v : ℕ) × (operate o a b ≡ Ok v)
 gives op.AddS a b e = (_, refl)
 gives op.AddU a b e = (_, refl)
 gives op.SubS a b e = (_, refl)
@@ -97,8 +82,8 @@ gives op.LtU a b e = (_, refl)
 gives op.LeS a b e = (_, refl)
 gives op.LeU a b e = (_, refl)
 
-no_trap : (o : Op) (k : Bool) → (not (may_trap o) && k) ≡ true → may_trap o ≡ false
-no_trap o k e = not_true (may_trap o) (and_left (not (may_trap o)) k e)
+no_trap : (o : Op) (k : Bool) → (not (operator_can_trap o) && k) ≡ true → operator_can_trap o ≡ false
+no_trap o k e = not_true (operator_can_trap o) (and_left (not (operator_can_trap o)) k e)
 
 kept_needs : (i : Instr) (live : Live) (f g : Frame) → SameLive (λ x. reads i x || (live x && not (writes i x))) f g → Needs i live f g
 kept_needs i live f g h =
@@ -126,14 +111,16 @@ module _ {S : Type 0} (c : Calls S) (falls : (t : ℕ) → CallsAlike anything t
         by = λ f g w le h.
             let is = gives o (f.regs x) (f.regs y) (no_trap o (not (live d)) e) in
             ap (λ (q : Result ℕ Trap). with_word q w (λ u. a (with_reg f d u) w)) is.1
-            ∙ go.by (with_reg f d is.0) g w le (dead_put live f g d is.0 (not_true (live d) (and_right (not (may_trap o)) (not (live d)) e)) h);
+            ∙ go.by (with_reg f d is.0) g w le
+            (dead_put live f g d is.0 (not_true (live d) (and_right (not (operator_can_trap o)) (not (live d)) e)) h);
       }
   step_dead m live (Get d q) a b e go =
       record { by = λ f g w le h. go.by (with_reg f d (w.objects q 0)) g w le (dead_put live f g d (w.objects q 0) (not_true (live d) e) h) }
   step_dead m live (Clear r l x y) a b e go =
       record {
         by = λ f g w le h. go.by (cleared f r l x y) g w le
-            (dead_clear live f g r l x y (eqb-true y 0 (and_left (nat_eq y 0) (none_live live r l) e)) (and_right (nat_eq y 0) (none_live live r l) e)
+            (dead_clear live f g r l x y (eqb-true y 0 (and_left (nat_eq y 0) (not (some_live live r l)) e))
+            (not_true (some_live live r l) (and_right (nat_eq y 0) (not (some_live live r l)) e))
             h);
       }
   step_dead m live (Set q s) a b e go = let bad : false ≡ true = e in absurd cc

@@ -22,7 +22,8 @@ use Rattle.il_laws.proofs.Induction.{Agree, Relation, related_agree}
 use Rattle.il_laws.proofs.Lists.{ValidBlock, valid_block, get_in}
 use Rattle.il_laws.proofs.Sound.{none_block, Targets, Sound, are_forward, valid_sound}
 use Rattle.il_laws.proofs.ValidBlocks.{with_blocks, valid_with, same_many, block_of, serves_blocks}
-use Rattle.il_laws.proofs.Needs.{SameLive, self_eq, or_yes}
+use Rattle.il_laws.proofs.Needs.{SameLive, self_eq}
+use Rattle.il_laws.proofs.Tests.{or_left, or_right}
 use Rattle.il_laws.proofs.Dead.{does_alive}
 use Rattle.il_laws.proofs.LiveStarts.{starts_at, starts_read}
 
@@ -62,43 +63,36 @@ module _ {S : Type 0} (c : Calls S) (falls : (t : ℕ) → CallsAlike anything t
   loop_alike : (u : ℕ) (f g : Frame) → SameLive (λ x. read_in bs x) f g → SameLive (at u) f g
   loop_alike u f g h = record { reg = λ x l. h.reg x (starts_read bs 0 bs x (λ k. k) (u - 0) l); arrays = h.arrays }
 
-  or_true_left : (a b : Bool) → a ≡ true → (a || b) ≡ true
-  or_true_left a b e = ap (λ (k : Bool). k || b) e
-
-  or_true_right : (a b : Bool) → b ≡ true → (a || b) ≡ true
-  or_true_right a b e = ap (λ (k : Bool). a || k) e ∙ or_yes a
-
   end_alive : (m t : ℕ) (e : End) → Targets (λ u. u < length bs) e → IsForward t e
       → ((u u1 : ℕ) → t < u → Agree m (Rel u u1) (old u) (new u1)) → ((u u1 : ℕ) → Agree m (Rel u u1) (turned old u) (turned new u1))
       → Agree m (λ f g. SameLive (λ x. live_at_end bs at e x) f g) (λ f w. finish (turned old) old e f w) (λ g w. finish (turned new) new e g w)
-  end_alive m t (ends.Jump u) p lt later back = record { by = λ f g w lw h. (later u u lt).by f g w lw (p, refl, h) }
+  end_alive m t (ends.Jump u) p lt later back = record {
+    by = λ f g w lw h. (later u u lt).by f g w lw (p, refl, record { reg = λ x l. h.reg x (or_left (at u x) false l); arrays = h.arrays });
+  }
   end_alive m t (ends.Branch r u v) p lt later back =
       record {
-        by = λ f g w lw h. ap₂ {A = Outcome S} {B = Outcome S} {C = Outcome S} (λ a b. choose (f.regs r) a b)
-            ((later u u lt.0).by f g w lw (
-              p.0,
-              refl,
-              record {
-                reg = λ x l. h.reg x (or_true_right (nat_eq x r) (at u x || at v x) (or_true_left (at u x) (at v x) l));
-                arrays =
-                    h.arrays;
-              },
-            ))
-            ((later v v lt.1).by f g w lw (
-              p.1,
-              refl,
-              record {
-                reg = λ x l. h.reg x (or_true_right (nat_eq x r) (at u x || at v x) (or_true_right (at u x) (at v x) l));
-                arrays =
-                    h.arrays;
-              },
-            ))
-            ∙ ap (λ (i : ℕ). choose i (new u g w) (new v g w)) (h.reg r (or_true_left (nat_eq r r) (at u r || at v r) (self_eq r)));
+        by = λ f g w lw h.
+            let first : SameLive (at u) f g = record {
+              reg = λ x l. h.reg x (or_right (nat_eq x r) (at u x || (at v x || false)) (or_left (at u x) (at v x || false) l));
+              arrays = h.arrays;
+            } in
+            let second : SameLive (at v) f g = record {
+              reg = λ x l. h.reg x
+                  (or_right (nat_eq x r) (at u x || (at v x || false)) (or_right (at u x) (at v x || false) (or_left (at v x) false l)));
+              arrays = h.arrays;
+            } in
+            ap₂ {A = Outcome S} {B = Outcome S} {C = Outcome S} (λ a b. choose (f.regs r) a b)
+            ((later u u lt.0).by f g w lw (p.0, refl, first)) ((later v v lt.1).by f g w lw (p.1, refl, second))
+            ∙ ap (λ (i : ℕ). choose i (new u g w) (new v g w)) (h.reg r (or_left (nat_eq r r) (at u r || (at v r || false)) (self_eq r)));
       }
   end_alive m t (ends.Loop u) p lt later back = record { by = λ f g w lw h. (back u u).by f g w lw (p, refl, loop_alike u f g h) }
   end_alive m t (ends.Return None) p lt later back = record { by = λ f g w lw h. refl }
-  end_alive m t (ends.Return (Some r)) p lt later back = record { by = λ f g w lw h. ap (λ (v : ℕ). Returns v w) (h.reg r (self_eq r)) }
-  end_alive m t (ends.Exit r) p lt later back = record { by = λ f g w lw h. ap (λ (v : ℕ). ended (Exit v) w) (h.reg r (self_eq r)) }
+  end_alive m t (ends.Return (Some r)) p lt later back = record {
+    by = λ f g w lw h. ap (λ (v : ℕ). Returns v w) (h.reg r (or_left (nat_eq r r) false (self_eq r)));
+  }
+  end_alive m t (ends.Exit r) p lt later back = record {
+    by = λ f g w lw h. ap (λ (v : ℕ). ended (Exit v) w) (h.reg r (or_left (nat_eq r r) false (self_eq r)));
+  }
 
   one : (m t t1 : ℕ) → ((u u1 : ℕ) → t < u → Agree m (Rel u u1) (old u) (new u1)) → ((u u1 : ℕ) → Agree m (Rel u u1) (turned old u) (turned new u1))
       → Agree m (Rel t t1) (old t) (new t1)

@@ -1,5 +1,5 @@
 -- The edges to a block, counted.
-use Rattle.std.proofs.Common.{◌≡◌, ℕ, zero, suc, ◌+◌, ◌<◌, ◌≤◌, List, [], ◌∷◌, refl, ap, arith, slice_get, eq-eqb}
+use Rattle.std.proofs.Common.{◌≡◌, ℕ, zero, suc, ◌+◌, ◌≤◌, List, [], ◌∷◌, refl, ap, arith, slice_get, eq-eqb}
 use Rattle.std.specs.Prelude.{nat_eq, Some}
 use Rattle.std.proofs.lemmas.Option.{none-some, same_Some}
 use Rattle.il_core.specs.declared.instr.Block.{Block}
@@ -13,20 +13,16 @@ pub edge_yes : (u t : ℕ) → u ≡ t → one_if (nat_eq u t) ≡ 1
 edge_yes u t e = ap one_if (eq-eqb u t e)
 
 pub edges_none : (e : End) (t : ℕ) → edges e t ≡ 0 → Targets (λ u. u ≡ t → ⊥) e
-edges_none (ends.Jump u) t h = λ e. (let one = edge_yes u t e in let none : one_if (nat_eq u t) ≡ 0 = h in absurd (omega arith))
+edges_none (ends.Jump u) t h = λ e. (let one = edge_yes u t e in let none : one_if (nat_eq u t) + 0 ≡ 0 = h in absurd (omega arith))
 edges_none (ends.Branch r u v) t h =
-    let sum : one_if (nat_eq u t) + one_if (nat_eq v t) ≡ 0 = h in
+    let sum : one_if (nat_eq u t) + (one_if (nat_eq v t) + 0) ≡ 0 = h in
     (λ e. (let one = edge_yes u t e in absurd (omega arith)), λ e. (let one = edge_yes v t e in absurd (omega arith)))
-edges_none (ends.Loop u) t h = λ e. (let one = edge_yes u t e in let none : one_if (nat_eq u t) ≡ 0 = h in absurd (omega arith))
+edges_none (ends.Loop u) t h = λ e. (let one = edge_yes u t e in let none : one_if (nat_eq u t) + 0 ≡ 0 = h in absurd (omega arith))
 edges_none (ends.Return r) t h = tt
 edges_none (ends.Exit r) t h = tt
 
-pub edges_some : (e : End) → Targets (λ u. 0 < edges e u) e
-edges_some (ends.Jump u) = let one = edge_yes u u refl in omega arith
-edges_some (ends.Branch r u v) = (let one = edge_yes u u refl in omega arith, let one = edge_yes v v refl in omega arith)
-edges_some (ends.Loop u) = let one = edge_yes u u refl in omega arith
-edges_some (ends.Return r) = tt
-edges_some (ends.Exit r) = tt
+pub jump_edge : (t : ℕ) → edges (ends.Jump t) t ≡ 1
+jump_edge t = let one = edge_yes t t refl in omega arith
 
 edges_one : (bs : List Block) (u t : ℕ) (z : Block) → slice_get bs u ≡ Some z → edges z.end t ≤ all_edges bs t
 edges_one [] u t z e = absurd (none-some z e)

@@ -1,6 +1,7 @@
 -- A routine whose instructions are changed by what is known before them does the same.
 use Rattle.std.proofs.Common.{◌≡◌, ℕ, zero, suc, ◌+◌, ◌<◌, ◌≤◌, ◌⊎◌, List, [], ◌∷◌, Bool, true, false, refl, ap, subst, sym, ◌∙◌, arith, length, slice_get, eq-eqb, eqb-true, inl, inr}
 use Rattle.std.specs.Prelude.{nat_eq, if◌then◌else◌, ◌||◌, Option, Some, None, ⊤, get_or}
+use Rattle.std.proofs.lemmas.Bool.{false≢true}
 use Rattle.std.proofs.lemmas.Option.{none-some, same_Some}
 use Rattle.il_core.specs.declared.instr.Block.{Block}
 use Rattle.il_core.specs.declared.instr.Instr.{Instr}
@@ -9,7 +10,9 @@ use Rattle.il_core.specs.declared.instr.End.TheVariants as ends
 use Rattle.il_core.specs.Routine.{RoutineParts}
 use Rattle.il_core.specs.World.{World, choose}
 use Rattle.il_core.specs.Meaning.{Frame, frame_of, Lengths, Next, step, finish}
-use Rattle.il_laws.specs.Facts.{Facts, after, through, writes, any_writes, loops_to, looped, jumps_to, before, facts_at}
+use Rattle.il_core.specs.Operands.{is_named, writes, loops_to}
+use Rattle.il_laws.specs.Facts.{Facts, after, through, any_writes, looped, jumps_to, before, facts_at}
+use Rattle.il_laws.proofs.Tests.{or_left, or_right, or_either, or_first, or_second}
 use Rattle.il_laws.specs.Propagate.{with_facts, taken, folded}
 use Rattle.il_laws.specs.Runs.{Calls, silent, does, turned, run}
 use Rattle.il_laws.proofs.Alike.{CallsAlike, anything, anything_blocks}
@@ -18,7 +21,7 @@ use Rattle.il_laws.proofs.Induction.{Agree, Relation, related_agree}
 use Rattle.il_laws.proofs.Same.{Leaves, SameAt}
 use Rattle.il_laws.proofs.Lists.{get_in}
 use Rattle.il_laws.proofs.Sound.{none_block, Targets, both_targets, Sound, are_forward, ends_same}
-use Rattle.il_laws.proofs.Knows.{Knows, Zeros, knows_after, unwritten, or_first, or_second, written_none, looped_at}
+use Rattle.il_laws.proofs.Knows.{Knows, Zeros, knows_after, unwritten, written_none, looped_at}
 use Rattle.il_laws.proofs.Arrives.{Quiet, arrives, knows_loop, knows_jump, begin_zeros, begin_knows}
 
 -- how an instruction may be changed, where these are the facts before it
@@ -89,33 +92,32 @@ module _ {S : Type 0} (c : Calls S) (falls : (t : ℕ) → CallsAlike anything t
         (end_folded fs e k p lt)
 
 -- which blocks an end jumps or loops to
-jump_targets : (e : End) → Targets (λ u. (jumps_to e u ≡ true) ⊎ (loops_to e u ≡ true)) e
-jump_targets (ends.Jump t) = inl (eq-eqb t t refl)
-jump_targets (ends.Branch r t u) =
-    (inl (ap (λ (k : Bool). k || nat_eq u t) (eq-eqb t t refl)), inl (ap (λ (k : Bool). nat_eq t u || k) (eq-eqb u u refl) ∙ or_yes (nat_eq t u)))
-  where
-    or_yes : (k : Bool) → (k || true) ≡ true
-    or_yes true = refl
-    or_yes false = refl
+jump_targets : (e : End) → Targets (λ u. (jumps_to e u ≡ true) ⊎ (is_named (loops_to e) u ≡ true)) e
+jump_targets (ends.Jump t) = inl (or_left (nat_eq t t) false (eq-eqb t t refl))
+jump_targets (ends.Branch r t u) = (
+  inl (or_left (nat_eq t t) (nat_eq t u || false) (eq-eqb t t refl)),
+  inl (or_right (nat_eq u t) (nat_eq u u || false) (or_left (nat_eq u u) false (eq-eqb u u refl))),
+)
 jump_targets (ends.Loop t) = inr (eq-eqb t t refl)
 jump_targets (ends.Return r) = tt
 jump_targets (ends.Exit r) = tt
 
-or_either : (a b : Bool) → (a || b) ≡ true → (a ≡ true) ⊎ (b ≡ true)
-or_either true b e = inl refl
-or_either false b e = inr e
-
 jump_later : (t u : ℕ) (e : End) → IsForward t e → jumps_to e u ≡ true → t < u
-jump_later t u (ends.Jump v) lt j = let same = eqb-true v u j in omega arith
+jump_later t u (ends.Jump v) lt j = elim (or_either (nat_eq u v) false j) [
+  | inl a ↦ (let same = eqb-true u v a in omega arith)
+  | inr a ↦
+      absurd (false≢true a)
+]
 jump_later t u (ends.Branch r v x) lt j =
-    let lt0 = lt.0 in let lt1 = lt.1 in
-    elim (or_either (nat_eq v u) (nat_eq x u) j) [
-      | inl a ↦ (let same = eqb-true v u a in omega arith)
-      | inr a ↦ (let same = eqb-true x u a in omega arith)
+    let lt0 = lt.0 in
+    let lt1 = lt.1 in
+    elim (or_either (nat_eq u v) (nat_eq u x || false) j) [
+      | inl a ↦ (let same = eqb-true u v a in omega arith)
+      | inr a ↦ elim (or_either (nat_eq u x) false a) [ inl b ↦ (let same = eqb-true u x b in omega arith) | inr b ↦ absurd (false≢true b) ]
     ]
-jump_later t u (ends.Loop v) lt j = let bad : false ≡ true = j in absurd cc
-jump_later t u (ends.Return r) lt j = let bad : false ≡ true = j in absurd cc
-jump_later t u (ends.Exit r) lt j = let bad : false ≡ true = j in absurd cc
+jump_later t u (ends.Loop v) lt j = absurd (false≢true j)
+jump_later t u (ends.Return r) lt j = absurd (false≢true j)
+jump_later t u (ends.Exit r) lt j = absurd (false≢true j)
 
 -- each block is the same or changed by the facts at its start
 pub record IsImproved (R : Change) (r : RoutineParts) (bs1 : List Block) : Type 0 where
@@ -135,7 +137,7 @@ module _ {S : Type 0} (c : Calls S) (falls : (t : ℕ) → CallsAlike anything t
   Rel t t1 f g = (t < length r.blocks) × (t1 ≡ t) × (f ≡ g) × Knows (facts_at r t) f × Zeros (Quiet r) f
 
   abbrev Goes : End → ℕ → Type 0
-  Goes e u = (u < length r.blocks) × ((jumps_to e u ≡ true) ⊎ (loops_to e u ≡ true))
+  Goes e u = (u < length r.blocks) × ((jumps_to e u ≡ true) ⊎ (is_named (loops_to e) u ≡ true))
 
   target_knows : (t : ℕ) (x : Block) (u : ℕ) (f : Frame) → slice_get r.blocks t ≡ Some x → Goes x.end u → Knows (through x.instrs (facts_at r t)) f
       → Zeros (Quiet r) f → Knows (facts_at r u) f
@@ -155,7 +157,7 @@ module _ {S : Type 0} (c : Calls S) (falls : (t : ℕ) → CallsAlike anything t
             let e = get_in r.blocks t none_block rel.0 in
             let is = better.block t x e in
             let y = is.0 in
-            let targets = both_targets (λ u. u < length r.blocks) (λ u. (jumps_to x.end u ≡ true) ⊎ (loops_to x.end u ≡ true)) x.end
+            let targets = both_targets (λ u. u < length r.blocks) (λ u. (jumps_to x.end u ≡ true) ⊎ (is_named (loops_to x.end) u ≡ true)) x.end
             (sound.inside t x e) (jump_targets x.end) in
             ap (λ (a : Next S). a f w) (run_block anything c falls n r.blocks (anything_blocks r.blocks) (are_forward r.blocks sound) t x e)
             ∙ (does_known c falls n R serves (Quiet r) m (facts_at r t) x.instrs y.instrs _ _ f rel.3 rel.4 (λ z q. written_none r.blocks t x z e q.1)

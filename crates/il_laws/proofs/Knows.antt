@@ -1,6 +1,6 @@
 -- What is known of registers holds of each frame that an instruction can leave.
 use Rattle.std.proofs.Common.{◌≡◌, ℕ, zero, suc, List, [], ◌∷◌, Bool, true, false, refl, ap, ap₂, sym, ◌∙◌, slice_get}
-use Rattle.std.specs.Prelude.{nat_eq, if◌then◌else◌, ◌||◌, Option, Some, None, option_map, Result, Ok, Err}
+use Rattle.std.specs.Prelude.{nat_eq, if◌then◌else◌, Option, Some, None, option_map, Result, Ok, Err}
 use Rattle.std.proofs.lemmas.Option.{none-some, same_Some}
 use Rattle.hlo_num.specs.declared.word.Trap.{Trap}
 use Rattle.hlo_num.specs.declared.word.Op.{Op}
@@ -9,10 +9,11 @@ use Rattle.hlo_num.specs.Operators.{operate}
 use Rattle.il_core.specs.declared.instr.Block.{Block}
 use Rattle.il_core.specs.declared.instr.Instr.{Instr}
 use Rattle.il_core.specs.declared.instr.Instr.TheVariants.{Const, Move, Conv, Bin, Get, Set, GetX, SetX, GetA, SetA, Clear, Turn, Call, GetChar, PutChar}
-use Rattle.il_core.specs.World.{put}
 use Rattle.il_core.specs.Meaning.{Frame, with_reg, is_among}
-use Rattle.il_laws.specs.Facts.{Facts, with_fact, word_in, known_result, after, writes, any_writes, written, loops_to, looped}
+use Rattle.il_core.specs.Operands.{is_named, writes, loops_to}
+use Rattle.il_laws.specs.Facts.{Facts, word_in, known_result, gives, after, any_writes, written, looped}
 use Rattle.il_laws.proofs.Same.{Leaves}
+use Rattle.il_laws.proofs.Tests.{or_left, or_right, or_first, or_second}
 
 -- a frame has what is known
 pub record Knows (fs : Facts) (f : Frame) : Type 0 where
@@ -21,18 +22,6 @@ pub record Knows (fs : Facts) (f : Frame) : Type 0 where
 -- registers that nothing writes are 0
 pub record Zeros (quiet : ℕ → Type 0) (f : Frame) : Type 0 where
   pub by : (x : ℕ) → quiet x → f.regs x ≡ 0
-
-fact_put : (fs : Facts) (g : ℕ → ℕ) (d v : ℕ) (o : Option ℕ) → ((u : ℕ) → o ≡ Some u → v ≡ u) → ((x u : ℕ) → fs x ≡ Some u → g x ≡ u) → (x u : ℕ)
-    → with_fact fs d o x ≡ Some u → put g d v x ≡ u
-fact_put fs g d v o h k x u e = fact_if (nat_eq x d) x u e
-  where
-    fact_if : (b : Bool) (x u : ℕ) → (if b then o else fs x) ≡ Some u → (if b then v else g x) ≡ u
-    fact_if true x u e = h u e
-    fact_if false x u e = k x u e
-
-fact_clear : (b : Bool) (o : Option ℕ) (v u : ℕ) → (o ≡ Some u → v ≡ u) → (if b then Some 0 else o) ≡ Some u → (if b then 0 else v) ≡ u
-fact_clear true o v u h e = same_Some 0 u e
-fact_clear false o v u h e = h e
 
 pub map_known : (g : ℕ → ℕ) (o : Option ℕ) (v u : ℕ) → ((w : ℕ) → o ≡ Some w → v ≡ w) → option_map g o ≡ Some u → g v ≡ u
 map_known g None v u h e = absurd (none-some u e)
@@ -51,36 +40,6 @@ result_known o None q a b u h k e = absurd (none-some u e)
 
 ok_same : (v u : ℕ) (r : Result ℕ Trap) → r ≡ Ok v → r ≡ Ok u → v ≡ u
 ok_same v u r e h = let both : ◌≡◌ {A = Result ℕ Trap} (Ok v) (Ok u) = sym e ∙ h in cc
-
-unknown : (v u : ℕ) → None ≡ Some u → v ≡ u
-unknown v u e = absurd (none-some u e)
-
-known_put : (fs : Facts) (f f1 : Frame) (d v : ℕ) (o : Option ℕ) → Knows fs f → f1 ≡ with_reg f d v → ((u : ℕ) → o ≡ Some u → v ≡ u)
-    → Knows (with_fact fs d o) f1
-known_put fs f f1 d v o k e h = record { by = λ x u eu. ap (λ (g : Frame). g.regs x) e ∙ fact_put fs f.regs d v o h k.by x u eu }
-
--- what is known behind an instruction
-pub knows_after : (i : Instr) (fs : Facts) (f f1 : Frame) → Knows fs f → Leaves i f f1 → Knows (after i fs) f1
-knows_after (Const d v) fs f f1 k l = known_put fs f f1 d v.0 (Some v.0) k l (λ u e. same_Some v.0 u e)
-knows_after (Move d s) fs f f1 k l = known_put fs f f1 d (f.regs s) (fs s) k l (λ u e. k.by s u e)
-knows_after (Conv d t s) fs f f1 k l = known_put fs f f1 d (convert t (f.regs s)) (option_map (convert t) (fs s)) k l
-    (λ u e. map_known (convert t) (fs s) (f.regs s) u (λ w h. k.by s w h) e)
-knows_after (Bin o d a b) fs f f1 k l = known_put fs f f1 d l.0 (known_result o (fs a) (fs b)) k l.2
-    (λ u e. ok_same l.0 u (operate o (f.regs a) (f.regs b)) l.1
-    (result_known o (fs a) (fs b) (f.regs a) (f.regs b) u (λ w h. k.by a w h) (λ w h. k.by b w h) e))
-knows_after (Get d g) fs f f1 k l = known_put fs f f1 d l.0 None k l.1 (λ u e. unknown l.0 u e)
-knows_after (Set g s) fs f f1 k l = record { by = λ x u e. ap (λ (h : Frame). h.regs x) l ∙ k.by x u e }
-knows_after (GetX d g i) fs f f1 k l = known_put fs f f1 d l.0 None k l.1 (λ u e. unknown l.0 u e)
-knows_after (SetX g i s) fs f f1 k l = record { by = λ x u e. ap (λ (h : Frame). h.regs x) l ∙ k.by x u e }
-knows_after (GetA d a i) fs f f1 k l = known_put fs f f1 d l.0 None k l.1 (λ u e. unknown l.0 u e)
-knows_after (SetA a i s) fs f f1 k l = record { by = λ x u e. ap (λ (h : ℕ → ℕ). h x) l ∙ k.by x u e }
-knows_after (Clear r c a m) fs f f1 k l =
-    record { by = λ x u e. ap (λ (h : Frame). h.regs x) l ∙ fact_clear (is_among r c x) (fs x) (f.regs x) u (λ h. k.by x u h) e }
-knows_after Turn fs f f1 k l = record { by = λ x u e. ap (λ (h : Frame). h.regs x) l ∙ k.by x u e }
-knows_after (Call None p count args) fs f f1 k l = record { by = λ x u e. ap (λ (h : Frame). h.regs x) l.1 ∙ k.by x u e }
-knows_after (Call (Some d) p count args) fs f f1 k l = known_put fs f f1 d l.0 None k l.1 (λ u e. unknown l.0 u e)
-knows_after (GetChar d) fs f f1 k l = known_put fs f f1 d l.0 None k l.1 (λ u e. unknown l.0 u e)
-knows_after (PutChar d s) fs f f1 k l = known_put fs f f1 d l.0 None k l.1 (λ u e. unknown l.0 u e)
 
 -- a register that an instruction doesn't write
 if_unwritten : (b : Bool) (v u : ℕ) → b ≡ false → (if b then v else u) ≡ u
@@ -104,13 +63,40 @@ unwritten (Call (Some d) p count args) f f1 x w l = ap (λ (h : Frame). h.regs x
 unwritten (GetChar d) f f1 x w l = ap (λ (h : Frame). h.regs x) l.1 ∙ if_unwritten (nat_eq x d) l.0 (f.regs x) w
 unwritten (PutChar d s) f f1 x w l = ap (λ (h : Frame). h.regs x) l.1 ∙ if_unwritten (nat_eq x d) l.0 (f.regs x) w
 
-pub or_first : (a b : Bool) → (a || b) ≡ false → a ≡ false
-or_first false b e = refl
-or_first true b e = e
+-- a register that an instruction writes, where it is known what it gives
+written_is : (f f1 : Frame) (x d v : ℕ) → f1 ≡ with_reg f d v → nat_eq x d ≡ true → f1.regs x ≡ v
+written_is f f1 x d v l w = ap (λ (g : Frame). g.regs x) l ∙ ap (λ (b : Bool). if b then v else f.regs x) w
 
-pub or_second : (a b : Bool) → (a || b) ≡ false → b ≡ false
-or_second false b e = e
-or_second true b e = let bad : true ≡ false = e in absurd cc
+given : (i : Instr) (fs : Facts) (f f1 : Frame) (x u : ℕ) → Knows fs f → Leaves i f f1 → writes i x ≡ true → gives fs i ≡ Some u → f1.regs x ≡ u
+given (Const d v) fs f f1 x u k l w e = written_is f f1 x d v.0 l w ∙ same_Some v.0 u e
+given (Move d s) fs f f1 x u k l w e = written_is f f1 x d (f.regs s) l w ∙ k.by s u e
+given (Conv d t s) fs f f1 x u k l w e =
+    written_is f f1 x d (convert t (f.regs s)) l w ∙ map_known (convert t) (fs s) (f.regs s) u (λ y h. k.by s y h) e
+given (Bin o d a b) fs f f1 x u k l w e =
+    written_is f f1 x d l.0 l.2 w
+    ∙ ok_same l.0 u (operate o (f.regs a) (f.regs b)) l.1
+    (result_known o (fs a) (fs b) (f.regs a) (f.regs b) u (λ y h. k.by a y h) (λ y h. k.by b y h) e)
+given (Clear r c a m) fs f f1 x u k l w e =
+    ap (λ (g : Frame). g.regs x) l ∙ ap (λ (b : Bool). if b then 0 else f.regs x) w ∙ same_Some 0 u e
+given (Get d g) fs f f1 x u k l w e = absurd (none-some u e)
+given (Set g s) fs f f1 x u k l w e = absurd (none-some u e)
+given (GetX d g i) fs f f1 x u k l w e = absurd (none-some u e)
+given (SetX g i s) fs f f1 x u k l w e = absurd (none-some u e)
+given (GetA d a i) fs f f1 x u k l w e = absurd (none-some u e)
+given (SetA a i s) fs f f1 x u k l w e = absurd (none-some u e)
+given Turn fs f f1 x u k l w e = absurd (none-some u e)
+given (Call dest p count args) fs f f1 x u k l w e = absurd (none-some u e)
+given (GetChar d) fs f f1 x u k l w e = absurd (none-some u e)
+given (PutChar d s) fs f f1 x u k l w e = absurd (none-some u e)
+
+-- what is known behind an instruction
+known_after : (i : Instr) (fs : Facts) (f f1 : Frame) (x u : ℕ) (b : Bool) → writes i x ≡ b → Knows fs f → Leaves i f f1
+    → (if b then gives fs i else fs x) ≡ Some u → f1.regs x ≡ u
+known_after i fs f f1 x u true w k l e = given i fs f f1 x u k l w e
+known_after i fs f f1 x u false w k l e = unwritten i f f1 x w l ∙ k.by x u e
+
+pub knows_after : (i : Instr) (fs : Facts) (f f1 : Frame) → Knows fs f → Leaves i f f1 → Knows (after i fs) f1
+knows_after i fs f f1 k l = record { by = λ x u e. known_after i fs f f1 x u (writes i x) refl k l e }
 
 pub written_none : (bs : List Block) (t : ℕ) (y : Block) (x : ℕ) → slice_get bs t ≡ Some y → written bs x ≡ false → any_writes y.instrs x ≡ false
 written_none [] t y x e w = absurd (none-some y e)
@@ -118,11 +104,8 @@ written_none (b ∷ bs) zero y x e w = ap (λ (z : Block). any_writes z.instrs x
     (written bs x) w
 written_none (b ∷ bs) (suc t) y x e w = written_none bs t y x e (or_second (any_writes b.instrs x) (written bs x) w)
 
-pub looped_at : (bs : List Block) (t : ℕ) (y : Block) (b : ℕ) → slice_get bs t ≡ Some y → loops_to y.end b ≡ true → looped bs b ≡ true
+pub looped_at : (bs : List Block) (t : ℕ) (y : Block) (b : ℕ) → slice_get bs t ≡ Some y → is_named (loops_to y.end) b ≡ true → looped bs b ≡ true
 looped_at [] t y b e l = absurd (none-some y e)
-looped_at (x ∷ bs) zero y b e l = ap (λ (k : Bool). k || looped bs b) (ap (λ (z : Block). loops_to z.end b) (same_Some x y e) ∙ l)
-looped_at (x ∷ bs) (suc t) y b e l = ap (λ (k : Bool). loops_to x.end b || k) (looped_at bs t y b e l) ∙ or_yes (loops_to x.end b)
-  where
-    or_yes : (k : Bool) → (k || true) ≡ true
-    or_yes true = refl
-    or_yes false = refl
+looped_at (x ∷ bs) zero y b e l =
+    or_left (is_named (loops_to x.end) b) (looped bs b) (ap (λ (z : Block). is_named (loops_to z.end) b) (same_Some x y e) ∙ l)
+looped_at (x ∷ bs) (suc t) y b e l = or_right (is_named (loops_to x.end) b) (looped bs b) (looped_at bs t y b e l)

@@ -29,3 +29,4 @@ pub mod Dead
 pub mod LiveStarts
 pub mod DeadWrites
 pub mod Simplified
+pub mod Tests

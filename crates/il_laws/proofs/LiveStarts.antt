@@ -1,16 +1,17 @@
 -- What is live at the start of a block, by its number; and that it is read somewhere.
 use Rattle.std.proofs.Common.{◌≡◌, ℕ, zero, suc, ◌+◌, ◌-◌, ◌<◌, ◌⊎◌, List, [], ◌∷◌, Bool, true, false, refl, ap, ap₂, sym, ◌∙◌, arith, slice_get, inl, inr}
-use Rattle.std.specs.Prelude.{nat_eq, not, if◌then◌else◌, ◌&&◌, ◌||◌, Some, None}
+use Rattle.std.specs.Prelude.{nat_eq, not, if◌then◌else◌, ◌&&◌, ◌||◌, Some}
+use Rattle.std.specs.List.{list_any}
+use Rattle.std.proofs.lemmas.Bool.{false≢true}
 use Rattle.std.proofs.lemmas.Option.{none-some, same_Some}
 use Rattle.il_core.specs.declared.instr.Block.{Block}
 use Rattle.il_core.specs.declared.instr.Instr.{Instr}
 use Rattle.il_core.specs.declared.instr.End.{End}
 use Rattle.il_core.specs.declared.instr.End.TheVariants as ends
-use Rattle.il_laws.specs.Facts.{writes}
-use Rattle.il_laws.specs.Live.{reads, end_reads, any_reads, read_in, Live, is_dead, live_through, live_at_end, nth_live, live_by, live_starts}
+use Rattle.il_core.specs.Operands.{is_named, reads, end_reads, writes}
+use Rattle.il_laws.specs.Live.{any_reads, read_in, Live, is_dead, live_through, live_at_end, nth_live, live_by, live_starts}
 use Rattle.il_laws.proofs.Places.{IsForward, AreForward, forward_less, forward_at}
-use Rattle.il_laws.proofs.Needs.{or_yes}
-use Rattle.il_laws.proofs.Dead.{and_left, or_either}
+use Rattle.il_laws.proofs.Tests.{or_yes, or_either, and_left}
 
 -- what is live at the start of a block, by its number
 look_same : (b u : ℕ) (s : Live) (later : List Live) → b < u → live_by (suc b) later u ≡ live_by b (s ∷ later) u
@@ -18,11 +19,11 @@ look_same b u s later lt = let at : u - b ≡ suc (u - suc b) = omega arith in a
 
 end_look : (bs : List Block) (b : ℕ) (at at1 : ℕ → Live) (e : End) → IsForward b e → ((u : ℕ) → b < u → at u ≡ at1 u)
     → live_at_end bs at e ≡ live_at_end bs at1 e
-end_look bs b at at1 (ends.Jump t) lt h = h t lt
-end_look bs b at at1 (ends.Branch r t u) lt h = ap₂ {A = Live} {B = Live} {C = Live} (λ l k x. nat_eq x r || (l x || k x)) (h t lt.0) (h u lt.1)
+end_look bs b at at1 (ends.Jump t) lt h = ap (λ (l : Live). λ x. l x || false) (h t lt)
+end_look bs b at at1 (ends.Branch r t u) lt h =
+    ap₂ {A = Live} {B = Live} {C = Live} (λ l k x. nat_eq x r || (l x || (k x || false))) (h t lt.0) (h u lt.1)
 end_look bs b at at1 (ends.Loop t) lt h = refl
-end_look bs b at at1 (ends.Return None) lt h = refl
-end_look bs b at at1 (ends.Return (Some r)) lt h = refl
+end_look bs b at at1 (ends.Return r) lt h = refl
 end_look bs b at at1 (ends.Exit r) lt h = refl
 
 through_end : (is : List Instr) (l l1 : Live) → l ≡ l1 → live_through is l ≡ live_through is l1
@@ -68,18 +69,21 @@ module _ (bs : List Block) where
         ]
       ]
 
+  some_read : (at : ℕ → Live) (us : List ℕ) (x : ℕ) → ((u : ℕ) → at u x ≡ true → read_in bs x ≡ true)
+      → list_any (λ u. at u x) us ≡ true → read_in bs x ≡ true
+  some_read at [] x h e = absurd (false≢true e)
+  some_read at (u ∷ us) x h e = elim (or_either (at u x) (list_any (λ v. at v x) us) e) [ inl a ↦ h u a | inr a ↦ some_read at us x h a ]
+
   end_read : (at : ℕ → Live) (e : End) (x : ℕ) → ((u : ℕ) → at u x ≡ true → read_in bs x ≡ true) → live_at_end bs at e x ≡ true
       → (end_reads e x ≡ true) ⊎ (read_in bs x ≡ true)
-  end_read at (ends.Jump t) x h e = inr (h t e)
-  end_read at (ends.Branch r t u) x h e =
-      elim (or_either (nat_eq x r) (at t x || at u x) e) [
-        | inl k ↦ inl k
-        | inr k ↦ elim (or_either (at t x) (at u x) k) [ inl l ↦ inr (h t l) | inr l ↦ inr (h u l) ]
-      ]
   end_read at (ends.Loop t) x h e = inr e
-  end_read at (ends.Return None) x h e = let bad : false ≡ true = e in absurd cc
-  end_read at (ends.Return (Some r)) x h e = inl e
-  end_read at (ends.Exit r) x h e = inl e
+  end_read at (ends.Jump t) x h e = inr (some_read at (t ∷ []) x h e)
+  end_read at (ends.Branch r t u) x h e = elim (or_either (nat_eq x r) (list_any (λ v. at v x) (t ∷ u ∷ [])) e) [
+    | inl a ↦ inl a
+    | inr a ↦ inr (some_read at (t ∷ u ∷ []) x h a)
+  ]
+  end_read at (ends.Return r) x h e = elim (or_either (is_named r x) false e) [ inl a ↦ inl a | inr a ↦ absurd (false≢true a) ]
+  end_read at (ends.Exit r) x h e = elim (or_either (nat_eq x r) false e) [ inl a ↦ inl a | inr a ↦ absurd (false≢true a) ]
 
   pub starts_read : (b : ℕ) (xs : List Block) (x : ℕ) → (read_in xs x ≡ true → read_in bs x ≡ true) → (i : ℕ) → nth_live (live_starts bs b xs) i x
       ≡ true → read_in bs x ≡ true

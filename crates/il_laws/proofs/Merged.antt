@@ -18,7 +18,7 @@ use Rattle.il_laws.proofs.Same.{SameAt, does_at, does_append}
 use Rattle.il_laws.proofs.Lists.{get_in}
 use Rattle.il_laws.proofs.Sound.{none_block, Targets, targets_map, both_targets, Sound, are_forward, ends_same}
 use Rattle.il_laws.proofs.Renumbered.{Marked, IsClosed}
-use Rattle.il_laws.proofs.Edged.{edge_yes, edges_none, edges_two}
+use Rattle.il_laws.proofs.Edged.{jump_edge, edges_none, edges_two}
 
 pub set_same : (bs : List Block) (b : ℕ) (x z : Block) → slice_get bs b ≡ Some x → slice_get (set_block bs b z) b ≡ Some z
 set_same [] b x z e = absurd (none-some x e)
@@ -83,7 +83,7 @@ module _ (bs : List Block) (b t : ℕ) (x y : Block) (sound : Sound bs) (ex : sl
   pub joined_closed : all_edges bs t ≡ 1 → IsClosed (all_but t bs) bs1
   joined_closed single =
       let lt = earlier in
-      let one : edges x.end t ≡ 1 = ap (λ (e : End). edges e t) jumps ∙ edge_yes t t refl in
+      let one : edges x.end t ≡ 1 = ap (λ (e : End). edges e t) jumps ∙ jump_edge t in
       let free : (u : ℕ) (z : Block) → (u ≡ b → ⊥) → slice_get bs u ≡ Some z → Targets (Marked (all_but t bs)) z.end = (λ u z ne e.
       let two = edges_two bs b u t x z ex e ne in
       targets_map (λ v. (v < length bs) × (v ≡ t → ⊥)) (Marked (all_but t bs)) (λ v p. marked_but bs t v p.0 p.1) z.end

@@ -1,6 +1,7 @@
 -- A kept instruction does the same from frames that agree on what it needs.
 use Rattle.std.proofs.Common.{◌≡◌, ℕ, zero, suc, ◌≤◌, List, [], ◌∷◌, Bool, true, false, refl, ap, ap₂, ◌∙◌, arith, eq-eqb}
 use Rattle.std.specs.Prelude.{nat_eq, if◌then◌else◌, ◌||◌, Option, Some, None, Result, Ok, Err}
+use Rattle.std.specs.List.{list_any}
 use Rattle.hlo_num.specs.declared.word.Trap.{Trap}
 use Rattle.hlo_num.specs.Words.{convert}
 use Rattle.hlo_num.specs.Operators.{operate}
@@ -8,10 +9,11 @@ use Rattle.il_core.specs.declared.instr.Instr.{Instr}
 use Rattle.il_core.specs.declared.instr.Instr.TheVariants.{Const, Move, Conv, Bin, Get, Set, GetX, SetX, GetA, SetA, Clear, Turn, Call, GetChar, PutChar}
 use Rattle.il_core.specs.World.{World, OutOfTurns, Outcome, Returns, Ends, Stuck, ended, first_byte, after_get, low_byte, after_put, turn_at, put_element, with_object, each, with_word, within, with_return}
 use Rattle.il_core.specs.Meaning.{Frame, with_reg, cleared, received, is_among, Lengths, Next, step}
-use Rattle.il_laws.specs.Facts.{writes}
-use Rattle.il_laws.specs.Live.{is_in, reads, Live}
+use Rattle.il_core.specs.Operands.{reads, writes}
+use Rattle.il_laws.specs.Live.{Live}
 use Rattle.il_laws.specs.Runs.{Calls, silent}
 use Rattle.il_laws.proofs.Alike.{Falls, CallsAlike, anything}
+use Rattle.il_laws.proofs.Tests.{or_left, or_right}
 use Rattle.il_laws.proofs.Induction.{Agree}
 
 -- the same in all registers that are live, and in all arrays
@@ -36,21 +38,20 @@ live_put live f g d v h a = record { reg = λ x l. if_same (nat_eq x d) v (f.reg
 pub self_eq : (x : ℕ) → nat_eq x x ≡ true
 self_eq x = eq-eqb x x refl
 
-left_eq : (x y : ℕ) → (nat_eq x x || nat_eq x y) ≡ true
-left_eq x y = ap (λ (k : Bool). k || nat_eq x y) (self_eq x)
+only_eq : (x : ℕ) → (nat_eq x x || false) ≡ true
+only_eq x = or_left (nat_eq x x) false (self_eq x)
 
-pub or_yes : (k : Bool) → (k || true) ≡ true
-or_yes true = refl
-or_yes false = refl
+left_eq : (x y : ℕ) → (nat_eq x x || (nat_eq x y || false)) ≡ true
+left_eq x y = or_left (nat_eq x x) (nat_eq x y || false) (self_eq x)
 
-right_eq : (x y : ℕ) → (nat_eq y x || nat_eq y y) ≡ true
-right_eq x y = ap (λ (k : Bool). nat_eq y x || k) (self_eq y) ∙ or_yes (nat_eq y x)
+right_eq : (x y : ℕ) → (nat_eq y x || (nat_eq y y || false)) ≡ true
+right_eq x y = or_right (nat_eq y x) (nat_eq y y || false) (only_eq y)
 
-each_read : (f g : Frame) (xs : List ℕ) → ((x : ℕ) → is_in xs x ≡ true → f.regs x ≡ g.regs x) → each f.regs xs ≡ each g.regs xs
+each_read : (f g : Frame) (xs : List ℕ) → ((x : ℕ) → list_any (nat_eq x) xs ≡ true → f.regs x ≡ g.regs x) → each f.regs xs ≡ each g.regs xs
 each_read f g [] h = refl
 each_read f g (x ∷ xs) h =
-    ap₂ {A = ℕ} {B = List ℕ} {C = List ℕ} (λ y ys. y ∷ ys) (h x (ap (λ (k : Bool). k || is_in xs x) (self_eq x)))
-    (each_read f g xs (λ y e. h y (ap (λ (k : Bool). nat_eq y x || k) e ∙ or_yes (nat_eq y x))))
+    ap₂ {A = ℕ} {B = List ℕ} {C = List ℕ} (λ y ys. y ∷ ys) (h x (or_left (nat_eq x x) (list_any (nat_eq x) xs) (self_eq x)))
+    (each_read f g xs (λ y e. h y (or_right (nat_eq y x) (list_any (nat_eq y) xs) e)))
 
 received_needs : (live : Live) (f g : Frame) (dest : Option ℕ) (v p count : ℕ) (args : List ℕ) → Needs (Call dest p count args) live f g
     → SameLive live (received f dest v) (received g dest v)
@@ -82,12 +83,13 @@ module _ {S : Type 0} where
     step_kept m live (Move d s) a b go =
         record {
           by = λ f g w le h. go.by (with_reg f d (f.regs s)) (with_reg g d (f.regs s)) w le (live_put live f g d (f.regs s) h.kept h.arrays)
-              ∙ ap (λ (v : ℕ). b (with_reg g d v) w) (h.source s (self_eq s));
+              ∙ ap (λ (v : ℕ). b (with_reg g d v) w) (h.source s (only_eq s));
         }
     step_kept m live (Conv d t s) a b go =
         record {
           by = λ f g w le h. go.by (with_reg f d (convert t (f.regs s))) (with_reg g d (convert t (f.regs s))) w le
-              (live_put live f g d (convert t (f.regs s)) h.kept h.arrays) ∙ ap (λ (v : ℕ). b (with_reg g d (convert t v)) w) (h.source s (self_eq s));
+              (live_put live f g d (convert t (f.regs s)) h.kept h.arrays) ∙ ap (λ (v : ℕ). b (with_reg g d (convert t v)) w)
+              (h.source s (only_eq s));
         }
     step_kept m live (Bin o d x y) a b go =
         record {
@@ -104,14 +106,14 @@ module _ {S : Type 0} where
     step_kept m live (Set q s) a b go =
         record {
           by = λ f g w le h. go.by f g (with_object w q 0 (f.regs s)) le (record { reg = λ x l. h.kept x l refl; arrays = h.arrays })
-              ∙ ap (λ (v : ℕ). b g (with_object w q 0 v)) (h.source s (self_eq s));
+              ∙ ap (λ (v : ℕ). b g (with_object w q 0 v)) (h.source s (only_eq s));
         }
     step_kept m live (GetX d q i) a b go =
         record {
           by = λ f g w le h. ap (λ (o : Outcome S). within (f.regs i) (n.object q) w o)
               (go.by (with_reg f d (w.objects q (f.regs i))) (with_reg g d (w.objects q (f.regs i))) w le
               (live_put live f g d (w.objects q (f.regs i)) h.kept h.arrays))
-              ∙ ap (λ (v : ℕ). within v (n.object q) w (b (with_reg g d (w.objects q v)) w)) (h.source i (self_eq i));
+              ∙ ap (λ (v : ℕ). within v (n.object q) w (b (with_reg g d (w.objects q v)) w)) (h.source i (only_eq i));
         }
     step_kept m live (SetX q i s) a b go =
         record {
@@ -126,7 +128,7 @@ module _ {S : Type 0} where
               (go.by (with_reg f d (f.arrays x (f.regs i))) (with_reg g d (f.arrays x (f.regs i))) w le
               (live_put live f g d (f.arrays x (f.regs i)) h.kept h.arrays))
               ∙ ap (λ (v : ℕ → ℕ → ℕ). within (f.regs i) (n.array x) w (b (with_reg g d (v x (f.regs i))) w)) h.arrays
-              ∙ ap (λ (v : ℕ). within v (n.array x) w (b (with_reg g d (g.arrays x v)) w)) (h.source i (self_eq i));
+              ∙ ap (λ (v : ℕ). within v (n.array x) w (b (with_reg g d (g.arrays x v)) w)) (h.source i (only_eq i));
         }
     step_kept m live (SetA x i s) a b go =
         record {
@@ -168,5 +170,5 @@ module _ {S : Type 0} where
         record {
           by = λ f g w le h. go.by (with_reg f d (low_byte (f.regs s))) (with_reg g d (low_byte (f.regs s))) (after_put (f.regs s) w) le
               (live_put live f g d (low_byte (f.regs s)) h.kept h.arrays)
-              ∙ ap (λ (v : ℕ). b (with_reg g d (low_byte v)) (after_put v w)) (h.source s (self_eq s));
+              ∙ ap (λ (v : ℕ). b (with_reg g d (low_byte v)) (after_put v w)) (h.source s (only_eq s));
         }

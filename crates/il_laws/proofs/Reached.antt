@@ -1,22 +1,22 @@
 -- As many rounds as there are blocks reach all blocks that can be reached.
-use Rattle.std.proofs.Common.{◌≡◌, ℕ, zero, suc, ◌+◌, ◌<◌, ◌≤◌, ◌⊎◌, List, [], ◌∷◌, Bool, true, false, refl, ap, ap₂, subst, sym, ◌∙◌, arith, length, slice_get, inl, inr, lt-ltb}
-use Rattle.std.specs.Prelude.{nat_lt, ◌&&◌, ◌||◌, Some}
+use Rattle.std.proofs.Common.{◌≡◌, ℕ, zero, suc, ◌+◌, ◌<◌, ◌≤◌, ◌⊎◌, List, [], ◌∷◌, Bool, true, false, refl, ap, ap₂, sym, ◌∙◌, arith, length, slice_get, inl, inr, eq-eqb}
+use Rattle.std.specs.Prelude.{nat_eq, ◌&&◌, ◌||◌, Some}
+use Rattle.std.specs.List.{list_any}
 use Rattle.std.proofs.lemmas.Option.{none-some, same_Some}
 use Rattle.std.proofs.lemmas.List.{length-map}
 use Rattle.il_core.specs.declared.instr.Block.{Block}
-use Rattle.il_laws.specs.Edges.{one_if, edges}
+use Rattle.il_core.specs.declared.instr.End.{End}
+use Rattle.il_core.specs.declared.instr.End.TheVariants as ends
+use Rattle.il_core.specs.Operands.{targets}
+use Rattle.il_laws.specs.Edges.{one_if}
 use Rattle.il_laws.specs.Unreachable.{goes_to, grown_from, grown, rounds, first_marked, reachable}
-use Rattle.il_laws.proofs.Sound.{targets_map, both_targets, Sound}
+use Rattle.il_laws.proofs.Sound.{Targets, targets_map, both_targets, Sound}
 use Rattle.il_laws.proofs.Renumbered.{Marked, IsClosed}
-use Rattle.il_laws.proofs.Edged.{edges_some}
+use Rattle.il_laws.proofs.Tests.{or_yes, or_left, or_right}
 
 abbrev count : List Bool → ℕ
 count [] = 0
 count (m ∷ ms) = one_if m + count ms
-
-or_true : (m : Bool) → (m || true) ≡ true
-or_true true = refl
-or_true false = refl
 
 marks_in : (ms : List Bool) → count ms ≤ length ms
 marks_in [] = omega arith
@@ -53,21 +53,32 @@ module _ (gone : ℕ → Bool) where
   grown_at : (b : ℕ) (ms : List Bool) (i : ℕ) → i < length ms → gone (b + i) ≡ true → Marked (grown_from gone b ms) i
   grown_at b [] i lt e = absurd (omega arith)
   grown_at b (m ∷ ms) zero lt e = let here : b ≡ b + 0 = omega arith in ap (λ (k : Bool). Some (m || k)) (ap gone here ∙ e)
-      ∙ ap (λ (k : Bool). Some k) (or_true m)
+      ∙ ap (λ (k : Bool). Some k) (or_yes m)
   grown_at b (m ∷ ms) (suc i) lt e =
       let there : suc b + i ≡ b + suc i = omega arith in
       let less : suc i < suc (length ms) = lt in
       grown_at (suc b) ms i (omega arith) (ap gone there ∙ e)
 
-goes_here : (ms : List Bool) (bs : List Block) (t u : ℕ) (x : Block) → slice_get bs u ≡ Some x → Marked ms u → 0 < edges x.end t
+goes_here : (ms : List Bool) (bs : List Block) (t u : ℕ) (x : Block) → slice_get bs u ≡ Some x → Marked ms u → list_any (nat_eq t) (targets x.end)
+    ≡ true
     → goes_to ms bs t ≡ true
 goes_here [] bs t u x e m lt = absurd (none-some true m)
 goes_here (k ∷ ms) [] t u x e m lt = absurd (none-some x e)
 goes_here (k ∷ ms) (y ∷ bs) t zero x e m lt =
-    let here : 0 < edges y.end t = subst (λ (z : Block). 0 < edges z.end t) (sym (same_Some y x e)) lt in
-    ap₂ {A = Bool} {B = Bool} {C = Bool} (λ a b. (a && b) || goes_to ms bs t) (same_Some k true m) (lt-ltb 0 (edges y.end t) here)
-goes_here (k ∷ ms) (y ∷ bs) t (suc u) x e m lt = ap (λ (b : Bool). (k && nat_lt 0 (edges y.end t)) || b) (goes_here ms bs t u x e m lt)
-    ∙ or_true (k && nat_lt 0 (edges y.end t))
+    let here : list_any (nat_eq t) (targets y.end) ≡ true = ap (λ (z : Block). list_any (nat_eq t) (targets z.end)) (same_Some y x e) ∙ lt in
+    ap₂ {A = Bool} {B = Bool} {C = Bool} (λ a b. (a && b) || goes_to ms bs t) (same_Some k true m) here
+goes_here (k ∷ ms) (y ∷ bs) t (suc u) x e m lt =
+    or_right (k && list_any (nat_eq t) (targets y.end)) (goes_to ms bs t) (goes_here ms bs t u x e m lt)
+
+targets_named : (e : End) → Targets (λ u. list_any (nat_eq u) (targets e) ≡ true) e
+targets_named (ends.Jump u) = or_left (nat_eq u u) false (eq-eqb u u refl)
+targets_named (ends.Branch r u v) = (
+  or_left (nat_eq u u) (nat_eq u v || false) (eq-eqb u u refl),
+  or_right (nat_eq v u) (nat_eq v v || false) (or_left (nat_eq v v) false (eq-eqb v v refl)),
+)
+targets_named (ends.Loop u) = or_left (nat_eq u u) false (eq-eqb u u refl)
+targets_named (ends.Return r) = tt
+targets_named (ends.Exit r) = tt
 
 module _ (bs : List Block) where
   rounds_length : (n : ℕ) (ms : List Bool) → length (rounds bs n ms) ≡ length ms
@@ -99,12 +110,13 @@ module _ (bs : List Block) where
   fixed_closed ms sound size first fixed =
       record {
         first = first;
-        goes = λ t x e m. targets_map (λ u. (u < length bs) × (0 < edges x.end u)) (Marked ms) (λ u p.
+        goes = λ t x e m. targets_map (λ u. (u < length bs) × (list_any (nat_eq u) (targets x.end) ≡ true)) (Marked ms) (λ u p.
             let lt = p.0 in
             let here : u ≡ 0 + u = omega arith in
             ap (λ (l : List Bool). slice_get l u) (sym fixed) ∙ grown_at (goes_to ms bs) 0 ms u (omega arith)
             (ap (goes_to ms bs) (sym here) ∙ goes_here ms bs u t x e m p.1))
-            x.end (both_targets (λ u. u < length bs) (λ u. 0 < edges x.end u) x.end (sound.inside t x e) (edges_some x.end));
+            x.end (both_targets (λ u. u < length bs) (λ u. list_any (nat_eq u) (targets x.end) ≡ true) x.end (sound.inside t x e)
+            (targets_named x.end));
       }
 
 first_length : (bs : List Block) → length (first_marked bs) ≡ length bs

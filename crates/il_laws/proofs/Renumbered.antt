@@ -7,7 +7,7 @@ use Rattle.il_core.specs.declared.instr.End.{End}
 use Rattle.il_core.specs.declared.instr.End.TheVariants as ends
 use Rattle.il_core.specs.World.{World, Outcome, choose}
 use Rattle.il_core.specs.Meaning.{Frame, Lengths, Next, finish}
-use Rattle.il_laws.specs.Blocks.{retargeted, retargeted_block}
+use Rattle.il_core.specs.Operands.{retargeted, retargeted_block}
 use Rattle.il_laws.specs.Renumber.{place_of, kept, renumbered}
 use Rattle.il_laws.specs.Runs.{Calls, turned, run}
 use Rattle.il_laws.proofs.Alike.{CallsAlike, anything, anything_blocks}

@@ -8,7 +8,7 @@ use Rattle.il_core.specs.declared.instr.End.TheVariants as ends
 use Rattle.il_core.specs.declared.shape.ShapeRow.{ShapeRow}
 use Rattle.il_core.specs.Routine.{RoutineParts}
 use Rattle.il_core.specs.Valid.{IsValidEnd, IsValid}
-use Rattle.il_laws.specs.Blocks.{retargeted, retargeted_block}
+use Rattle.il_core.specs.Operands.{retargeted, retargeted_block}
 use Rattle.il_laws.specs.Renumber.{place_of, kept, renumbered}
 use Rattle.il_laws.proofs.Lists.{ValidBlock, valid_block, get_in}
 use Rattle.il_laws.proofs.Sound.{none_block, Targets}

@@ -1,25 +1,22 @@
 -- What is known of registers: facts at the start of each block, and through a block.
-use Rattle.std.specs.Prelude.{ℕ, zero, suc, ◌||◌, Bool, false, List, [], ◌∷◌, Option, Some, None, option_map, nat_eq, nat_lt, if◌then◌else◌, slice_get, Result, Ok, Err}
+use Rattle.std.specs.Prelude.{ℕ, zero, suc, ◌||◌, Bool, List, [], ◌∷◌, Option, Some, None, option_map, nat_eq, nat_lt, if◌then◌else◌, slice_get, Result, Ok, Err}
+use Rattle.std.specs.List.{list_any}
 use Rattle.hlo_num.specs.declared.word.Trap.{Trap}
 use Rattle.hlo_num.specs.declared.word.Op.{Op}
 use Rattle.hlo_num.specs.Words.{convert}
 use Rattle.hlo_num.specs.Operators.{operate}
 use Rattle.il_core.specs.declared.instr.Block.{Block}
 use Rattle.il_core.specs.declared.instr.Instr.{Instr}
-use Rattle.il_core.specs.declared.instr.Instr.TheVariants.{Const, Move, Conv, Bin, Get, Set, GetX, SetX, GetA, SetA, Clear, Turn, Call, GetChar, PutChar}
+use Rattle.il_core.specs.declared.instr.Instr.TheVariants.{Const, Move, Conv, Bin, Clear}
 use Rattle.il_core.specs.declared.instr.End.{End}
-use Rattle.il_core.specs.declared.instr.End.TheVariants as ends
 use Rattle.il_core.specs.Routine.{RoutineParts}
-use Rattle.il_core.specs.Meaning.{is_among}
+use Rattle.il_core.specs.Operands.{is_named, writes, jumps, loops_to}
 
 -- a fact gives a register a word
 abbrev pub Facts : Type 0
 Facts = ℕ → Option ℕ
 
-abbrev pub with_fact : Facts → ℕ → Option ℕ → Facts
-with_fact fs d v x = if nat_eq x d then v else fs x
-
--- a word that an operator gives
+-- the word of an operator that doesn't trap
 abbrev pub word_in : Result ℕ Trap → Option ℕ
 word_in (Ok v) = Some v
 word_in (Err t) = None
@@ -30,76 +27,44 @@ known_result o (Some a) (Some b) = word_in (operate o a b)
 known_result o (Some a) None = None
 known_result o None b = None
 
--- Behind an instruction: `const`, `move`, `conv` and an operator give their value where it is known, `clear` gives 0, and
--- any other write makes its register unknown.
+-- what an instruction gives to the registers that it writes, where that is known
+abbrev pub gives : Facts → Instr → Option ℕ
+gives fs (Const d v) = Some v.0
+gives fs (Move d s) = fs s
+gives fs (Conv d t s) = option_map (convert t) (fs s)
+gives fs (Bin o d a b) = known_result o (fs a) (fs b)
+gives fs (Clear r c a m) = Some 0
+gives fs _ = None
+
+-- behind an instruction: what it writes is what it gives, and all else is known as before
 abbrev pub after : Instr → Facts → Facts
-after (Const d v) fs = with_fact fs d (Some v.0)
-after (Move d s) fs = with_fact fs d (fs s)
-after (Conv d t s) fs = with_fact fs d (option_map (convert t) (fs s))
-after (Bin o d a b) fs = with_fact fs d (known_result o (fs a) (fs b))
-after (Get d g) fs = with_fact fs d None
-after (Set g s) fs = fs
-after (GetX d g i) fs = with_fact fs d None
-after (SetX g i s) fs = fs
-after (GetA d a i) fs = with_fact fs d None
-after (SetA a i s) fs = fs
-after (Clear r c a m) fs = λ x. if is_among r c x then Some 0 else fs x
-after Turn fs = fs
-after (Call None p count args) fs = fs
-after (Call (Some d) p count args) fs = with_fact fs d None
-after (GetChar d) fs = with_fact fs d None
-after (PutChar d s) fs = with_fact fs d None
+after i fs x = if writes i x then gives fs i else fs x
 
 abbrev pub through : List Instr → Facts → Facts
 through [] fs = fs
 through (i ∷ is) fs = through is (after i fs)
 
--- whether an instruction writes a register
-abbrev pub writes : Instr → ℕ → Bool
-writes (Const d v) x = nat_eq x d
-writes (Move d s) x = nat_eq x d
-writes (Conv d t s) x = nat_eq x d
-writes (Bin o d a b) x = nat_eq x d
-writes (Get d g) x = nat_eq x d
-writes (Set g s) x = false
-writes (GetX d g i) x = nat_eq x d
-writes (SetX g i s) x = false
-writes (GetA d a i) x = nat_eq x d
-writes (SetA a i s) x = false
-writes (Clear r c a m) x = is_among r c x
-writes Turn x = false
-writes (Call None p count args) x = false
-writes (Call (Some d) p count args) x = nat_eq x d
-writes (GetChar d) x = nat_eq x d
-writes (PutChar d s) x = nat_eq x d
-
+-- whether some instruction writes a register
 abbrev pub any_writes : List Instr → ℕ → Bool
-any_writes [] x = false
-any_writes (i ∷ is) x = writes i x || any_writes is x
+any_writes is x = list_any (λ i. writes i x) is
 
 abbrev pub written : List Block → ℕ → Bool
-written [] x = false
-written (b ∷ bs) x = any_writes b.instrs x || written bs x
+written bs x = list_any (λ b. any_writes b.instrs x) bs
 
 -- whether some `loop` goes to a block
-abbrev pub loops_to : End → ℕ → Bool
-loops_to (ends.Loop t) b = nat_eq t b
-loops_to _ b = false
-
 abbrev pub looped : List Block → ℕ → Bool
-looped [] b = false
-looped (x ∷ xs) b = loops_to x.end b || looped xs b
+looped bs b = list_any (λ x. is_named (loops_to x.end) b) bs
 
+-- whether an end can jump to a block
 abbrev pub jumps_to : End → ℕ → Bool
-jumps_to (ends.Jump t) b = nat_eq t b
-jumps_to (ends.Branch r t u) b = nat_eq t b || nat_eq u b
-jumps_to _ b = false
+jumps_to e b = list_any (nat_eq b) (jumps e)
 
 -- the end of a block, and the facts there
 pub record Passed : Type 0 where
   pub end : End
   pub facts : Facts
 
+-- what both of two know
 abbrev pub both_know : Option ℕ → Option ℕ → Option ℕ
 both_know (Some v) (Some w) = if nat_eq v w then Some v else None
 both_know (Some v) None = None

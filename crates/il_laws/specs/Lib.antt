@@ -1,4 +1,3 @@
-pub mod Blocks
 pub mod Edges
 pub mod Facts
 pub mod Keeping

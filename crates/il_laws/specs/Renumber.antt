@@ -1,7 +1,7 @@
 -- Blocks left out, with the others renumbered in their order.
 use Rattle.std.specs.Prelude.{ℕ, zero, suc, Bool, List, [], ◌∷◌, map, if◌then◌else◌}
 use Rattle.il_core.specs.declared.instr.Block.{Block}
-use Rattle.il_laws.specs.Blocks.{retargeted_block}
+use Rattle.il_core.specs.Operands.{retargeted_block}
 
 -- how many marked blocks stand before block t: its number where only marked blocks are kept
 abbrev pub place_of : List Bool → ℕ → ℕ

@@ -1,15 +1,16 @@
 -- Which blocks are reachable from the first.
-use Rattle.std.specs.Prelude.{ℕ, zero, suc, ◌&&◌, ◌||◌, Bool, true, false, List, [], ◌∷◌, length, map, nat_lt}
+use Rattle.std.specs.Prelude.{ℕ, zero, suc, ◌&&◌, ◌||◌, Bool, true, false, List, [], ◌∷◌, length, map, nat_eq}
+use Rattle.std.specs.List.{list_any}
 use Rattle.il_core.specs.declared.instr.Block.{Block}
 use Rattle.il_core.specs.Routine.{RoutineParts}
-use Rattle.il_laws.specs.Edges.{edges}
+use Rattle.il_core.specs.Operands.{targets}
 use Rattle.il_laws.specs.Renumber.{renumbered}
 
 -- whether some marked block goes to block t
 abbrev pub goes_to : List Bool → List Block → ℕ → Bool
 goes_to [] xs t = false
 goes_to (m ∷ ms) [] t = false
-goes_to (m ∷ ms) (x ∷ xs) t = (m && nat_lt 0 (edges x.end t)) || goes_to ms xs t
+goes_to (m ∷ ms) (x ∷ xs) t = (m && list_any (nat_eq t) (targets x.end)) || goes_to ms xs t
 
 -- marks from block b on, with those that a marked block goes to
 abbrev pub grown_from : (ℕ → Bool) → ℕ → List Bool → List Bool
