@@ -30,3 +30,5 @@ pub mod LiveStarts
 pub mod DeadWrites
 pub mod Simplified
 pub mod Tests
+pub mod Samples
+pub mod MixedSamples
