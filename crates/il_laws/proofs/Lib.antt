@@ -32,3 +32,5 @@ pub mod Simplified
 pub mod Tests
 pub mod Samples
 pub mod MixedSamples
+pub mod Sizes
+pub mod Charges

@@ -1,12 +1,8 @@
 -- The changes of one routine at loops, and at routines with all kinds of instructions.
-use Rattle.std.proofs.Common.{◌≡◌, ℕ, List, [], ◌∷◌, Bool, true, false, refl, Option, Some, None}
-use Rattle.hlo_num.specs.declared.word.Word.{Word}
+use Rattle.std.proofs.Common.{◌≡◌, [], ◌∷◌, true, refl, Some}
 use Rattle.hlo_num.specs.declared.word.Op.TheVariants as op
 use Rattle.hlo_num.specs.declared.word.Ty.TheVariants as ty
-use Rattle.il_core.specs.declared.instr.Block.{Block}
-use Rattle.il_core.specs.declared.instr.Instr.{Instr}
 use Rattle.il_core.specs.declared.instr.Instr.TheVariants.{Const, Move, Conv, Bin, Get, Set, SetA, Clear, Turn, GetChar, PutChar}
-use Rattle.il_core.specs.declared.instr.End.{End}
 use Rattle.il_core.specs.declared.instr.End.TheVariants.{Jump, Branch, Loop, Return, Exit}
 use Rattle.il_core.specs.Routine.{RoutineParts}
 use Rattle.il_laws.specs.Propagate.{propagate, fold_branches}
