@@ -101,6 +101,12 @@ writes_array (SetA a i s) x = nat_eq x a
 writes_array (Clear r c a m) x = is_among a m x
 writes_array _ x = false
 
+-- the local array of which it reads or writes one element
+abbrev pub array_of : Instr → Option ℕ
+array_of (GetA d a i) = Some a
+array_of (SetA a i s) = Some a
+array_of _ = None
+
 -- the object, by its PID, that an instruction itself reads, and that it writes
 abbrev pub object_read : Instr → Option ℕ
 object_read (Get d g) = Some g
