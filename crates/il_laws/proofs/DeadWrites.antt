@@ -1,5 +1,5 @@
 -- Leaving out dead writes makes a routine that serves.
-use Rattle.std.proofs.Common.{◌≡◌, ℕ, zero, suc, ◌+◌, ◌-◌, ◌<◌, List, [], ◌∷◌, Bool, true, false, refl, ap, ap₂, subst, sym, ◌∙◌, arith, length, slice_get}
+use Rattle.std.proofs.Common.{◌≡◌, ℕ, zero, suc, ◌+◌, ◌-◌, ◌<◌, List, [], ◌∷◌, Bool, true, false, refl, ap, ap₂, subst, sym, ◌∙◌, arith, length, slice_get, eq-eqb}
 use Rattle.std.specs.Prelude.{nat_eq, if◌then◌else◌, ◌||◌, Some, None, get_or}
 use Rattle.std.specs.List.{AllByRecursion}
 use Rattle.std.proofs.lemmas.Option.{none-some, same_Some}
@@ -22,9 +22,8 @@ use Rattle.il_laws.proofs.Induction.{Agree, Relation, related_agree}
 use Rattle.il_laws.proofs.Lists.{ValidBlock, valid_block, get_in}
 use Rattle.il_laws.proofs.Sound.{none_block, Targets, Sound, are_forward, valid_sound}
 use Rattle.il_laws.proofs.ValidBlocks.{with_blocks, valid_with, same_many, block_of, serves_blocks}
-use Rattle.il_laws.proofs.Needs.{SameLive, self_eq}
 use Rattle.il_laws.proofs.Tests.{or_left, or_right}
-use Rattle.il_laws.proofs.Dead.{does_alive}
+use Rattle.il_laws.proofs.Living.{SameLive, does_alive}
 use Rattle.il_laws.proofs.LiveStarts.{starts_at, starts_read}
 
 pub alive_at : (bs : List Block) (at : ℕ → Live) (xs : List Block) (i : ℕ) (x : Block) → slice_get xs i ≡ Some x → slice_get (alive_blocks bs at xs) i
@@ -61,37 +60,37 @@ module _ {S : Type 0} (c : Calls S) (falls : (t : ℕ) → CallsAlike anything t
   at_block t x e = let here : t ≡ 0 + t = omega arith in ap (λ (u : ℕ). at u) here ∙ starts_at bs 0 bs t x e (are_forward bs sound)
 
   loop_alike : (u : ℕ) (f g : Frame) → SameLive (λ x. read_in bs x) f g → SameLive (at u) f g
-  loop_alike u f g h = record { reg = λ x l. h.reg x (starts_read bs 0 bs x (λ k. k) (u - 0) l); arrays = h.arrays }
+  loop_alike u f g h = record { reg = λ x l. h.reg x (starts_read bs 0 bs x (λ k. k) (u - 0) l); array = h.array }
 
   end_alive : (m t : ℕ) (e : End) → Targets (λ u. u < length bs) e → IsForward t e
       → ((u u1 : ℕ) → t < u → Agree m (Rel u u1) (old u) (new u1)) → ((u u1 : ℕ) → Agree m (Rel u u1) (turned old u) (turned new u1))
       → Agree m (λ f g. SameLive (λ x. live_at_end bs at e x) f g) (λ f w. finish (turned old) old e f w) (λ g w. finish (turned new) new e g w)
   end_alive m t (ends.Jump u) p lt later back = record {
-    by = λ f g w lw h. (later u u lt).by f g w lw (p, refl, record { reg = λ x l. h.reg x (or_left (at u x) false l); arrays = h.arrays });
+    by = λ f g w lw h. (later u u lt).by f g w lw (p, refl, record { reg = λ x l. h.reg x (or_left (at u x) false l); array = h.array });
   }
   end_alive m t (ends.Branch r u v) p lt later back =
       record {
         by = λ f g w lw h.
             let first : SameLive (at u) f g = record {
               reg = λ x l. h.reg x (or_right (nat_eq x r) (at u x || (at v x || false)) (or_left (at u x) (at v x || false) l));
-              arrays = h.arrays;
+              array = h.array;
             } in
             let second : SameLive (at v) f g = record {
               reg = λ x l. h.reg x
                   (or_right (nat_eq x r) (at u x || (at v x || false)) (or_right (at u x) (at v x || false) (or_left (at v x) false l)));
-              arrays = h.arrays;
+              array = h.array;
             } in
             ap₂ {A = Outcome S} {B = Outcome S} {C = Outcome S} (λ a b. choose (f.regs r) a b)
             ((later u u lt.0).by f g w lw (p.0, refl, first)) ((later v v lt.1).by f g w lw (p.1, refl, second))
-            ∙ ap (λ (i : ℕ). choose i (new u g w) (new v g w)) (h.reg r (or_left (nat_eq r r) (at u r || (at v r || false)) (self_eq r)));
+            ∙ ap (λ (i : ℕ). choose i (new u g w) (new v g w)) (h.reg r (or_left (nat_eq r r) (at u r || (at v r || false)) (eq-eqb r r refl)));
       }
   end_alive m t (ends.Loop u) p lt later back = record { by = λ f g w lw h. (back u u).by f g w lw (p, refl, loop_alike u f g h) }
   end_alive m t (ends.Return None) p lt later back = record { by = λ f g w lw h. refl }
   end_alive m t (ends.Return (Some r)) p lt later back = record {
-    by = λ f g w lw h. ap (λ (v : ℕ). Returns v w) (h.reg r (or_left (nat_eq r r) false (self_eq r)));
+    by = λ f g w lw h. ap (λ (v : ℕ). Returns v w) (h.reg r (or_left (nat_eq r r) false (eq-eqb r r refl)));
   }
   end_alive m t (ends.Exit r) p lt later back = record {
-    by = λ f g w lw h. ap (λ (v : ℕ). ended (Exit v) w) (h.reg r (or_left (nat_eq r r) false (self_eq r)));
+    by = λ f g w lw h. ap (λ (v : ℕ). ended (Exit v) w) (h.reg r (or_left (nat_eq r r) false (eq-eqb r r refl)));
   }
 
   one : (m t t1 : ℕ) → ((u u1 : ℕ) → t < u → Agree m (Rel u u1) (old u) (new u1)) → ((u u1 : ℕ) → Agree m (Rel u u1) (turned old u) (turned new u1))
@@ -113,7 +112,7 @@ module _ {S : Type 0} (c : Calls S) (falls : (t : ℕ) → CallsAlike anything t
 
   pub alive_keeps : (f : Frame) (w : World S) → old 0 f w ≡ new 0 f w
   alive_keeps f w = (related_agree w.turns (length bs) old new Rel (λ t t1 f1 g1 rel. rel.0) (λ m t t1 le later back. one m t t1 later back) 0 0).by f
-      f w (omega arith) (sound.some, refl, record { reg = λ x l. refl; arrays = refl })
+      f w (omega arith) (sound.some, refl, record { reg = λ x l. refl; array = λ a. refl })
 
 alive_keeps_all : (P : Instr → Type 0) (k : Bool) (i : Instr) (js : List Instr) → P i → AllByRecursion P js
     → AllByRecursion P (if k then js else i ∷ js)

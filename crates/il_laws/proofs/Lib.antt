@@ -24,8 +24,6 @@ pub mod Improved
 pub mod Propagated
 pub mod Unreached
 pub mod RenumberedValid
-pub mod Needs
-pub mod Dead
 pub mod LiveStarts
 pub mod DeadWrites
 pub mod Simplified
@@ -34,3 +32,5 @@ pub mod Samples
 pub mod MixedSamples
 pub mod Sizes
 pub mod Charges
+pub mod Falling
+pub mod Living
