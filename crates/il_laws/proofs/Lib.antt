@@ -34,3 +34,26 @@ pub mod Sizes
 pub mod Charges
 pub mod Falling
 pub mod Living
+pub mod Returning
+pub mod Renaming
+pub mod SpliceBlocks
+pub mod SpliceRuns
+pub mod SpliceSites
+pub mod SpliceValid
+pub mod SpliceServes
+pub mod SpliceSizes
+pub mod CloneRuns
+pub mod CloneValid
+pub mod CloneRows
+pub mod Retargeted
+pub mod Shaped
+pub mod Grown
+pub mod ClonesGrown
+pub mod ReachClosed
+pub mod Kept
+pub mod KeptRows
+pub mod KeptPrograms
+pub mod Rows
+mod SpliceSamples
+mod CloneSamples
+mod ReachSamples

@@ -41,7 +41,7 @@ serves_then p r r1 r2 a b =
     }
 
 -- what holds of all that is found holds of each element of a list by rising number
-each_found : {X : Type 0} (number : X → ℕ) (P : X → Type 0) (xs : List X) → IsRising number xs
+pub each_found : {X : Type 0} (number : X → ℕ) (P : X → Type 0) (xs : List X) → IsRising number xs
     → ((q : ℕ) (x : X) → found number q xs ≡ Some x → P x) → AllByRecursion P xs
 each_found {X} number P xs rises h = go xs (λ i d lt. h (number (get_or xs i d)) (get_or xs i d) (found_at number xs i d rises lt))
   where
