@@ -195,7 +195,8 @@ module _ {S : Type 0} where
                   let leave : Next S = λ g1 w1. finish (turned new) new (copied_end names (suc b) rest y.end) g1 w1 in
                   ap (λ (a : Next S). with_return (a h w) k) (inner_is t y is)
                   ∙ does_return c nq y.instrs (λ f1 w1. finish (turned inner) inner y.end f1 w1) k h w
-                  ∙ (does_meets r.regs arrays names.reg names.array names.count q.regs (length q.arrays) (shift_by r.regs) (shift_by arrays) c falls nq n1 callee_lengths rows e m
+                  ∙ (does_meets r.regs arrays names.reg names.array names.count q.regs (length q.arrays) (shift_by r.regs)
+                  (shift_by arrays) c falls nq n1 callee_lengths rows e m
                   y.instrs _ _ ok.instrs (inner_end m t le y.end ok.end rel.0 later back)).by h g w lw rel.2
                   ∙ ap (λ (a : Next S). a g w) (sym (does_append c n1 (map (renamed names) y.instrs) (handed names y.end s.cut.dest) leave))
                   ∙ ap (λ (a : Next S). a g w) (sym (new_is (suc b + t) (at.copy rows r q s fits y) (at.get_copy rows r q s fits t y is)))
