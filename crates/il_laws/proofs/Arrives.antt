@@ -13,7 +13,7 @@ use Rattle.il_laws.proofs.Knows.{Knows, Zeros}
 not_less : (x n : ℕ) → n ≤ x → nat_lt x n ≡ false
 not_less x n le = elim (cases_Bool (nat_lt x n)) [ inl less ↦ (let lt = ltb-true x n less in absurd (omega arith)) | inr none ↦ none ]
 
-both_first : (p q : Option ℕ) (u : ℕ) → both_know p q ≡ Some u → p ≡ Some u
+pub both_first : (p q : Option ℕ) (u : ℕ) → both_know p q ≡ Some u → p ≡ Some u
 both_first (Some v) (Some w) u e = both_if (nat_eq v w) v u e
   where
     both_if : (b : Bool) (v u : ℕ) → (if b then Some v else None) ≡ Some u → Some v ≡ Some u
@@ -22,7 +22,7 @@ both_first (Some v) (Some w) u e = both_if (nat_eq v w) v u e
 both_first (Some v) None u e = absurd (none-some u e)
 both_first None q u e = absurd (none-some u e)
 
-both_second : (p q : Option ℕ) (u : ℕ) → both_know p q ≡ Some u → q ≡ Some u
+pub both_second : (p q : Option ℕ) (u : ℕ) → both_know p q ≡ Some u → q ≡ Some u
 both_second (Some v) (Some w) u e = both_if (nat_eq v w) refl e
   where
     both_if : (b : Bool) → nat_eq v w ≡ b → (if b then Some v else None) ≡ Some u → Some w ≡ Some u

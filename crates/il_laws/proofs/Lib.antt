@@ -57,3 +57,4 @@ pub mod Rows
 mod SpliceSamples
 mod CloneSamples
 mod ReachSamples
+pub mod FlowLaws

@@ -1,5 +1,6 @@
 pub mod Edges
 pub mod Facts
+pub mod FlowLaws
 pub mod Keeping
 pub mod Known
 pub mod Laws

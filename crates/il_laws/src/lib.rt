@@ -4,12 +4,14 @@
 #![tactic(auto)]
 
 mod cloning;
+mod flowing;
 mod keeping;
 mod reaching;
 mod simplifying;
 mod splicing;
 
 pub use cloning::{clone_is_right, clone_is_valid, clones_keep, retarget_keeps};
+pub use flowing::{facts_meet, live_flows, reachable_is_least};
 pub use keeping::{follow_then, replaced_follow, run_kept, valid_runs};
 pub use reaching::{pruned_keeps, reach_closes};
 pub use simplifying::{
