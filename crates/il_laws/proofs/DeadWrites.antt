@@ -119,7 +119,7 @@ alive_keeps_all : (P : Instr → Type 0) (k : Bool) (i : Instr) (js : List Instr
 alive_keeps_all P true i js h g = g
 alive_keeps_all P false i js h g = (h, g)
 
-alive_all : (P : Instr → Type 0) (is : List Instr) (live : Live) → AllByRecursion P is → AllByRecursion P (alive is live)
+pub alive_all : (P : Instr → Type 0) (is : List Instr) (live : Live) → AllByRecursion P is → AllByRecursion P (alive is live)
 alive_all P [] live h = tt
 alive_all P (i ∷ is) live h = alive_keeps_all P (is_dead i (live_through is live)) i (alive is live) h.0 (alive_all P is live h.1)
 

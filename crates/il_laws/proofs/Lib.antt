@@ -58,3 +58,4 @@ mod SpliceSamples
 mod CloneSamples
 mod ReachSamples
 pub mod FlowLaws
+pub mod Within

@@ -24,7 +24,7 @@ use Rattle.il_laws.proofs.RenumberedValid.{renumbered_valid}
 use Rattle.il_laws.proofs.Merged.{set_same, set_other, set_length, joined_closed, joined_keeps, next_is}
 use Rattle.il_laws.proofs.Serving.{serves_itself, serves_then}
 
-all_both : {X : Type 0} (P : X → Type 0) (xs ys : List X) → AllByRecursion P xs → AllByRecursion P ys → AllByRecursion P (xs ++ ys)
+pub all_both : {X : Type 0} (P : X → Type 0) (xs ys : List X) → AllByRecursion P xs → AllByRecursion P ys → AllByRecursion P (xs ++ ys)
 all_both P [] ys h g = g
 all_both P (x ∷ xs) ys h g = (h.0, all_both P xs ys h.1 g)
 

@@ -177,7 +177,8 @@ looped_first_merge_blocks : (merge_blocks looped_first).blocks ≡ (
     block_of (Get 3 1 ∷ Clear 6 2 1 0 ∷ PutChar 1 1 ∷ Clear 5 3 1 0 ∷ []) (Branch 8 1 3) ∷
     block_of (Const 0 (word 300) ∷ Conv 1 ty.Char 0 ∷ Bin op.LtS 7 6 0 ∷ Bin op.SubU 2 1 7 ∷ []) (Branch 1 2 3) ∷
     block_of (Const 5 (word 0) ∷ Const 1 (word 1) ∷ Move 4 6 ∷ []) (Loop 0) ∷
-    block_of (Bin op.LtS 2 8 7 ∷ Set 1 7 ∷ Bin op.AddS 0 4 3 ∷ Bin op.LtS 5 4 0 ∷ Conv 4 ty.Char 6 ∷ Bin op.SubU 7 5 2 ∷ Conv 8 ty.Char 2 ∷ []) (Return (Some 6)) ∷
+    block_of (Bin op.LtS 2 8 7 ∷ Set 1 7 ∷ Bin op.AddS 0 4 3 ∷ Bin op.LtS 5 4 0 ∷ Conv 4 ty.Char 6 ∷ Bin op.SubU 7 5 2 ∷ Conv 8 ty.Char 2
+    ∷ []) (Return (Some 6)) ∷
     block_of (SetA 0 6 7 ∷ Move 0 2 ∷ Const 3 (word 7) ∷ Bin op.DivS 3 8 7 ∷ []) (Exit 6) ∷ [])
 looped_first_merge_blocks = refl
 

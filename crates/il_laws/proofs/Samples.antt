@@ -31,7 +31,8 @@ three_calls = record {
   entry = 1;
   arrays = [];
   blocks =
-      block_of (Const 0 (word 4) ∷ Call (Some 1) 0 1 (0 ∷ []) ∷ Const 2 (word 4) ∷ Call (Some 3) 0 1 (2 ∷ []) ∷ Bin op.AddS 4 1 3 ∷ Const 5 (word 4) ∷ Call (Some 6) 0 1 (5 ∷ []) ∷ Bin op.AddS 7 4 6 ∷ []) (Return (Some 7)) ∷
+      block_of (Const 0 (word 4) ∷ Call (Some 1) 0 1 (0 ∷ []) ∷ Const 2 (word 4) ∷ Call (Some 3) 0 1 (2 ∷ []) ∷ Bin op.AddS 4 1 3 ∷ Const 5
+      (word 4) ∷ Call (Some 6) 0 1 (5 ∷ []) ∷ Bin op.AddS 7 4 6 ∷ []) (Return (Some 7)) ∷
       block_of (Const 8 (word 0) ∷ []) (Return (Some 8)) ∷ [];
 }
 
@@ -50,7 +51,8 @@ three_merged = refl
 
 -- the second block can't be reached
 three_reached : (drop_unreachable three_calls).blocks ≡ (
-    block_of (Const 0 (word 4) ∷ Call (Some 1) 0 1 (0 ∷ []) ∷ Const 2 (word 4) ∷ Call (Some 3) 0 1 (2 ∷ []) ∷ Bin op.AddS 4 1 3 ∷ Const 5 (word 4) ∷ Call (Some 6) 0 1 (5 ∷ []) ∷ Bin op.AddS 7 4 6 ∷ []) (Return (Some 7)) ∷ [])
+    block_of (Const 0 (word 4) ∷ Call (Some 1) 0 1 (0 ∷ []) ∷ Const 2 (word 4) ∷ Call (Some 3) 0 1 (2 ∷ []) ∷ Bin op.AddS 4 1 3 ∷ Const 5
+    (word 4) ∷ Call (Some 6) 0 1 (5 ∷ []) ∷ Bin op.AddS 7 4 6 ∷ []) (Return (Some 7)) ∷ [])
 three_reached = refl
 
 -- at each call the argument is known
@@ -58,7 +60,8 @@ three_known : site_constants three_calls ≡ (Some 4 ∷ []) ∷ (Some 4 ∷ [])
 three_known = refl
 
 three_simplified : (simplify three_calls).blocks ≡ (
-    block_of (Const 0 (word 4) ∷ Call (Some 1) 0 1 (0 ∷ []) ∷ Const 2 (word 4) ∷ Call (Some 3) 0 1 (2 ∷ []) ∷ Bin op.AddS 4 1 3 ∷ Const 5 (word 4) ∷ Call (Some 6) 0 1 (5 ∷ []) ∷ Bin op.AddS 7 4 6 ∷ []) (Return (Some 7)) ∷ [])
+    block_of (Const 0 (word 4) ∷ Call (Some 1) 0 1 (0 ∷ []) ∷ Const 2 (word 4) ∷ Call (Some 3) 0 1 (2 ∷ []) ∷ Bin op.AddS 4 1 3 ∷ Const 5
+    (word 4) ∷ Call (Some 6) 0 1 (5 ∷ []) ∷ Bin op.AddS 7 4 6 ∷ []) (Return (Some 7)) ∷ [])
 three_simplified = refl
 
 -- the square, with 4 in place of its parameter
@@ -89,7 +92,8 @@ quotient = record {
   entry = 1;
   arrays = [];
   blocks =
-      block_of (Const 0 (word 2147483647) ∷ Const 1 (word 0) ∷ Bin op.SubS 2 1 0 ∷ Const 3 (word 1) ∷ Bin op.SubS 4 2 3 ∷ Const 5 (word 1) ∷ Const 6 (word 0) ∷ Bin op.SubS 7 6 5 ∷ Bin op.DivS 8 4 7 ∷ []) (Return (Some 8)) ∷
+      block_of (Const 0 (word 2147483647) ∷ Const 1 (word 0) ∷ Bin op.SubS 2 1 0 ∷ Const 3 (word 1) ∷ Bin op.SubS 4 2 3 ∷ Const 5 (word 1)
+      ∷ Const 6 (word 0) ∷ Bin op.SubS 7 6 5 ∷ Bin op.DivS 8 4 7 ∷ []) (Return (Some 8)) ∷
       block_of (Const 9 (word 0) ∷ []) (Return (Some 9)) ∷ [];
 }
 

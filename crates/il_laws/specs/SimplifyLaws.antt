@@ -4,6 +4,7 @@ use Rattle.il_core.specs.declared.program.IlProgram.{IlProgram}
 use Rattle.il_core.specs.Routine.{RoutineParts}
 use Rattle.il_core.specs.Program.{routine_at}
 use Rattle.il_core.specs.Size.{size, charge}
+use Rattle.il_core.specs.Limits.{IsWithinLimits}
 use Rattle.il_core.specs.Valid.{IsProgram}
 use Rattle.il_laws.specs.Keeping.{MayFollow, with_each, with_routine}
 
@@ -24,3 +25,7 @@ pub record NoLarger (r r1 : RoutineParts) : Type 0 where
 
 abbrev pub GetsNoLarger : (RoutineParts → RoutineParts) → Type 0
 GetsNoLarger change = (r : RoutineParts) → NoLarger r (change r)
+
+-- a routine within the limits of the language stays so
+abbrev pub StaysWithin : (RoutineParts → RoutineParts) → Type 0
+StaysWithin change = (r : RoutineParts) → IsWithinLimits r → IsWithinLimits (change r)
