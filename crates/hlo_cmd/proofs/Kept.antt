@@ -134,4 +134,4 @@ kept body input turns =
     let call : Act (Unit {0}) = λ k q args w1. turn (ended OutOfTurns) (λ w2. begin (exec no_log p turns) (routine_at p.routines q) args (noted no_log 0 k q w2)) w1 in
     let back : ℕ → Next (Unit {0}) = λ u f1 w1. turn (ended OutOfTurns) (λ w2. exec no_log p turns (main_routine body) u f1 w2) w1 in
     let n : Lengths = lengths p (main_routine body) in
-    ap run_of (enters call n back (blocks body 0) (frame_of []) w ∙ body_returns call n back (later call n back (blocks body 0)) body 0 0 (frame_of []) w)
+    ap run_of (enters call n back (blocks body 0) (frame_of 0 []) w ∙ body_returns call n back (later call n back (blocks body 0)) body 0 0 (frame_of 0 []) w)

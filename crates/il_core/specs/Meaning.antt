@@ -22,9 +22,9 @@ pub record Frame : Type 0 where
 abbrev pub with_reg : Frame → ℕ → ℕ → Frame
 with_reg f d v = record f { regs = put f.regs d v }
 
--- at a call: the parameters have the arguments, all else is 0
-abbrev pub frame_of : List ℕ → Frame
-frame_of args = record { regs = from_list args; arrays = λ a i. 0 }
+-- at a call: the first registers, one for each parameter, have the arguments, and all else is 0
+abbrev pub frame_of : ℕ → List ℕ → Frame
+frame_of params args = record { regs = λ x. if nat_lt x params then from_list args x else 0; arrays = λ a i. 0 }
 
 -- whether x is one of the n numbers from the first on
 abbrev pub is_among : ℕ → ℕ → ℕ → Bool
@@ -121,7 +121,7 @@ lengths p r = record { array = slice_index r.arrays; object = words_of p.objects
 -- begins a call of a routine, if there is one
 abbrev pub begin : {S : Type 0} → (RoutineParts → ℕ → Next S) → Option RoutineParts → List ℕ → World S → Outcome S
 begin run None args w = Stuck
-begin run (Some r) args w = run r 0 (frame_of args) w
+begin run (Some r) args w = run r 0 (frame_of r.params args) w
 
 -- the run of a routine from block t on; the bound is above the turns left
 abbrev pub exec : {S : Type 0} → Recorder S → IlProgram → ℕ → RoutineParts → ℕ → Next S

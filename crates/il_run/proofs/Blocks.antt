@@ -98,9 +98,9 @@ module _ {S : Type 0} (note : Recorder S) (p : IlProgram) where
 
   -- a call, where a turn is left
   pub call_from : (r callee : RoutineParts) (k q t : ℕ) (args : List ℕ) (w : World S) → w.turns ≡ suc t → routine_at p.routines q ≡ Some callee
-      → calls_of note p r k q args w ≡ run_from note p callee 0 0 (frame_of args) (noted note r.pid k q (record w { turns = t }))
+      → calls_of note p r k q args w ≡ run_from note p callee 0 0 (frame_of callee.params args) (noted note r.pid k q (record w { turns = t }))
   call_from r callee k q t args w e is =
       let w1 = noted note r.pid k q (record w { turns = t }) in
       ap (λ (c : ℕ). turn_at (ended OutOfTurns w) (λ w2. act_noting note p q args (noted note r.pid k q w2)) w c) e
       ∙ ap (λ (o : Option RoutineParts). begin (exec note p (suc t)) o args w1) is
-      ∙ exec_from callee 0 (frame_of args) w1
+      ∙ exec_from callee 0 (frame_of callee.params args) w1

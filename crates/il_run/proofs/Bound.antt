@@ -134,7 +134,7 @@ module _ {S T : Type 0} (h : S → T) where
 
   pub begin_alike : (t : ℕ) (xs : List ℕ) (ra : RoutineParts → ℕ → Next S) (rb : RoutineParts → ℕ → Next T) (w : World S) → ((r : RoutineParts) (u : ℕ) (f : Frame) → Like t xs (ra r u f w) (rb r u f (world_by h w))) → (o : Option RoutineParts) (args : List ℕ) → Like t xs (begin ra o args w) (begin rb o args (world_by h w))
   begin_alike t xs ra rb w g None args = (refl, tt)
-  begin_alike t xs ra rb w g (Some r) args = g r 0 (frame_of args)
+  begin_alike t xs ra rb w g (Some r) args = g r 0 (frame_of r.params args)
 
   module _ (note : Recorder S) (note1 : Recorder T) (notes : (p k q : ℕ) (log : S) → note1 p k q (h log) ≡ h (note p k q log)) (prog : IlProgram) where
     pub noted_by : (p k q : ℕ) (w : World S) → noted note1 p k q (world_by h w) ≡ world_by h (noted note p k q w)

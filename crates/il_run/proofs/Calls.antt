@@ -9,6 +9,7 @@ use Rattle.il_core.specs.Program.{routine_at}
 use Rattle.il_core.specs.Valid.{IsRegIfSome}
 use Rattle.il_core.specs.World.{World, Outcome, Returns, Ends, OutOfTurns, ended, each, from_list, turn_at, with_return}
 use Rattle.il_core.specs.Meaning.{Frame, frame_of, received, act_noting, Recorder, noted}
+use Rattle.il_core.proofs.Frames.{frame_full}
 use Rattle.il_run.specs.declared.machine.Machine.{Machine}
 use Rattle.il_run.specs.declared.machine.Suspended.{Suspended}
 use Rattle.il_run.specs.declared.store.Store.{Store}
@@ -53,10 +54,11 @@ module _ {S : Type 0} (note : Recorder S) (p : IlProgram) (t : Tables) (tabled :
 
     pub call_left : (callee : ℕ) (s : Store) (stack : Vec Suspended Global) (vs input output : List ℕ) (log : S)
         → IsNext p old (Call dest q count args) → 0 < old.turns → routine_at p.routines q ≡ Some (routine_in p callee) → vs ≡ each (frame_in old.store (routine_in p old.routine)).regs args
-        → length vs ≤ (routine_in p callee).regs → Enters old.store s vs (routine_in p callee).regs (sum (routine_in p callee).arrays) → stack.items ≡ old.stack.items ++ waiting ∷ []
+        → length vs ≤ (routine_in p callee).params → length vs ≤ (routine_in p callee).regs → Enters old.store s vs (routine_in p callee).regs (sum (routine_in p callee).arrays)
+        → stack.items ≡ old.stack.items ++ waiting ∷ []
         → left note p t old input output log
         ≡ left note p t (record { store = s; routine = callee; block = 0; instr = 0; stack = stack; turns = old.turns - 1 }) input output (note (routine_in p old.routine).pid (site_at (routine_in p old.routine) old.block old.instr) q log)
-    call_left callee s stack vs input output log next some found isv few enters stacks =
+    call_left callee s stack vs input output log next some found isv taken few enters stacks =
         let r = routine_in p old.routine in
         let c = routine_in p callee in
         let xs = old.store.regs.items in
@@ -80,7 +82,8 @@ module _ {S : Type 0} (note : Recorder S) (p : IlProgram) (t : Tables) (tabled :
         ap (λ (o : Outcome S). resume note p xs us old.stack.items o)
         (call_run w next
         ∙ ap (λ (o : Outcome S). with_return o (λ v w2. run_from note p r old.block (suc old.instr) (received f dest v) w2)) (call_from note p r c k q (old.turns - 1) (each f.regs args) w (omega arith) found)
-        ∙ ap (λ (n : ℕ). with_return (run_from note p c 0 0 (frame_of (each f.regs args)) w1) (λ v w2. run_from note p r old.block n (received f dest v) w2)) (let e : suc old.instr ≡ old.instr + 1 = omega arith in e)
+        ∙ ap (λ (n : ℕ). with_return (run_from note p c 0 0 (frame_of c.params (each f.regs args)) w1) (λ v w2. run_from note p r old.block n (received f dest v) w2)) (let e : suc old.instr ≡ old.instr + 1 = omega arith in e)
+        ∙ ap (λ (g : Frame). back f (run_from note p c 0 0 g w1)) (frame_full c.params (each f.regs args) (subst (λ (ys : List ℕ). length ys ≤ c.params) isv taken))
         ∙ ap (λ (g : Frame). back f (run_from note p c 0 0 g w1)) (same_frame _ _ _ _ regs arrays)
         ∙ ap (λ (os : ℕ → ℕ → ℕ). back f (run_from note p c 0 0 (frame_in s c) (record w1 { objects = os }))) (ap (λ (ys : List ℕ). arrays_in ys 0 t.objects.sizes.items) (sym enters.words))
         ∙ ap (λ (g : Frame). back g (run_from note p c 0 0 (frame_in s c) (record w1 { objects = arrays_in s.words.items 0 t.objects.sizes.items }))) frame)

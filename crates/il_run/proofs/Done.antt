@@ -112,7 +112,7 @@ module _ {S : Type 0} (note : Recorder S) (p : IlProgram) (valid : IsProgram p) 
         | inr ne ↦ record { by = λ f w le1. subst (λ (c1 : Bool). Done w.turns (if c1 then first f w else later u f w)) (sym (ne_eqb u b ne)) ((goes u (omega arith) lt).by f w le1) }
       ]
 
-  begin_done : (t q : ℕ) (run : RoutineParts → ℕ → Next S) (args : List ℕ) (w : World S) → HasRoutine q → ((r : RoutineParts) → IsValid p.shapes r → Done t (run r 0 (frame_of args) w)) → Done t (begin run (routine_at p.routines q) args w)
+  begin_done : (t q : ℕ) (run : RoutineParts → ℕ → Next S) (args : List ℕ) (w : World S) → HasRoutine q → ((r : RoutineParts) → IsValid p.shapes r → Done t (run r 0 (frame_of r.params args) w)) → Done t (begin run (routine_at p.routines q) args w)
   begin_done t q run args w h go = subst (λ (o : Option RoutineParts). Done t (begin run o args w)) (sym h.is) (go h.routine h.is_valid)
 
   exec_done : (n : ℕ) (r : RoutineParts) (u : ℕ) (f : Frame) (w : World S) → w.turns < n → IsValid p.shapes r → u < length r.blocks → Done w.turns (exec note p n r u f w)
@@ -124,7 +124,7 @@ module _ {S : Type 0} (note : Recorder S) (p : IlProgram) (valid : IsProgram p) 
       (lengths p r) r r.blocks 0 0 u ok.blocks (omega arith) (omega arith) lt
       (record {
         by = λ k q args w1 le h. turn_done w.turns w1.turns w1 (λ w2. begin (exec note p n) (routine_at p.routines q) args (noted note r.pid k q w2)) le (λ w2 lt2.
-            begin_done w2.turns q (exec note p n) args (noted note r.pid k q w2) h (λ r1 ok1. exec_done n r1 0 (frame_of args) (noted note r.pid k q w2) (omega arith) ok1 ok1.some_block));
+            begin_done w2.turns q (exec note p n) args (noted note r.pid k q w2) h (λ r1 ok1. exec_done n r1 0 (frame_of r1.params args) (noted note r.pid k q w2) (omega arith) ok1 ok1.some_block));
       })
       (λ v lv. record { by = λ f1 w1 le. turn_done w.turns w1.turns w1 (λ w2. exec note p n r v f1 w2) le (λ w2 lt2. exec_done n r v f1 w2 (omega arith) ok lv) })).by f w (omega arith)
 
@@ -143,5 +143,5 @@ has_run p valid input turns =
     let w : World (Unit {0}) = at_start tt p input turns in
     let c = callee_of p valid (main_pid p.shapes) 0 true (main_shape p valid) in
     let r = run_there turns (act p (main_pid p.shapes) [] w)
-    (begin_done no_log p valid turns (main_pid p.shapes) (exec no_log p (suc turns)) [] w (record { routine = c.routine; is = c.is; is_valid = c.is_valid }) (λ r1 ok1. exec_done no_log p valid (suc turns) r1 0 (frame_of []) w (omega arith) ok1 ok1.some_block)) in
+    (begin_done no_log p valid turns (main_pid p.shapes) (exec no_log p (suc turns)) [] w (record { routine = c.routine; is = c.is; is_valid = c.is_valid }) (λ r1 ok1. exec_done no_log p valid (suc turns) r1 0 (frame_of r1.params []) w (omega arith) ok1 ok1.some_block)) in
     record { run = r.0; is = r.1 }

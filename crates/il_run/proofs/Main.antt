@@ -11,6 +11,7 @@ use Rattle.il_core.specs.Program.{routine_at, main_pid, initial_word}
 use Rattle.il_core.specs.Valid.{IsProgram}
 use Rattle.il_core.specs.World.{World}
 use Rattle.il_core.specs.Meaning.{Frame, frame_of, begin, exec, at_start, MadeCall, add_call}
+use Rattle.il_core.proofs.Frames.{frame_full}
 use Rattle.il_run.specs.declared.machine.Machine.{Machine}
 use Rattle.il_run.specs.declared.machine.Suspended.{Suspended}
 use Rattle.il_run.specs.declared.store.Store.{Store}
@@ -64,10 +65,11 @@ module _ (p : IlProgram) (valid : IsProgram p) (t : Tables) (tabled : IsTabled p
   starts i s stack turns at regs elements count words at_regs at_elements none =
       let r = routine_in p i in
       let m : Machine = record { store = s; routine = i; block = 0; instr = 0; stack = stack; turns = turns } in
-      let frame : frame_in s r ≡ frame_of [] = λ j. record {
+      let frame : frame_in s r ≡ frame_of r.params [] = (λ j. record {
         regs = (ap (λ (xs : List ℕ). window xs s.at_regs r.regs) regs ∙ ap (λ (n : ℕ). window (replicate r.regs 0) n r.regs) at_regs ∙ zero_window r.regs r.regs) j;
         arrays = (ap (λ (xs : List ℕ). arrays_in xs s.at_elements r.arrays) elements ∙ ap (λ (n : ℕ). arrays_in (replicate (sum r.arrays) 0) n r.arrays) at_elements ∙ zero_arrays (sum r.arrays) r.arrays) j;
-      } in
+      })
+      ∙ sym (frame_full r.params [] (omega arith)) in
       let objects : arrays_in s.words.items 0 t.objects.sizes.items ≡ initial_word p.objects = fun_ext (λ g. fun_ext (λ j. words.by g j)) in
       record {
         sound = record {
@@ -83,7 +85,7 @@ module _ (p : IlProgram) (valid : IsProgram p) (t : Tables) (tabled : IsTabled p
             let w : World (List MadeCall) = at_start [] p input turns in
             ap (λ (zs : List Suspended). resume add_call p s.regs.items s.elements.items zs (run_from add_call p r 0 0 (frame_in s r) (world_in add_call p t m input [] []))) none
             ∙ ap (λ (f : Frame). run_from add_call p r 0 0 f (world_in add_call p t m input [] [])) frame
-            ∙ ap (λ (os : ℕ → ℕ → ℕ). run_from add_call p r 0 0 (frame_of []) (record w { objects = os })) objects
-            ∙ sym (exec_from add_call p r 0 (frame_of []) w)
+            ∙ ap (λ (os : ℕ → ℕ → ℕ). run_from add_call p r 0 0 (frame_of r.params []) (record w { objects = os })) objects
+            ∙ sym (exec_from add_call p r 0 (frame_of r.params []) w)
             ∙ sym (ap (λ (o : Option RoutineParts). begin (exec add_call p (suc turns)) o [] w) at.found);
       }

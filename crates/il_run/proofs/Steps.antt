@@ -91,10 +91,11 @@ module _ (p : IlProgram) (t : Tables) (tabled : IsTabled p t) (old : Machine) (s
 
   pub call_moves : (dest : Option ℕ) (q count : ℕ) (args : List ℕ) (callee : ℕ) (s : Store) (stack : Vec Suspended Global) (vs : List ℕ) → IsNext p old (Call dest q count args) → 0 < old.turns
       → IsRegIfSome (routine_in p old.routine).regs dest → routine_at p.routines q ≡ Some (routine_in p callee) → callee < length p.routines → 0 < length (routine_in p callee).blocks → blocks_size (routine_in p callee).blocks ≤ 2 ^ 16
-      → vs ≡ each (frame_in old.store (routine_in p old.routine)).regs args → length vs ≤ (routine_in p callee).regs → Enters old.store s vs (routine_in p callee).regs (sum (routine_in p callee).arrays)
+      → vs ≡ each (frame_in old.store (routine_in p old.routine)).regs args → length vs ≤ (routine_in p callee).params → length vs ≤ (routine_in p callee).regs
+      → Enters old.store s vs (routine_in p callee).regs (sum (routine_in p callee).arrays)
       → stack.items ≡ old.stack.items ++ waiting {S = List MadeCall} add_call p t tabled old sound dest q count args ∷ []
       → Moved p t old (record { store = s; routine = callee; block = 0; instr = 0; stack = stack; turns = old.turns - 1 }) move.Called
-  call_moves dest q count args callee s stack vs next some isdest found lt blocks few isv fit enters stacks = record {
+  call_moves dest q count args callee s stack vs next some isdest found lt blocks few isv taken fit enters stacks = record {
     sound = call_sound {S = List MadeCall} add_call p t tabled old sound dest q count args callee s stack vs next isdest lt blocks fit enters stacks;
     less = omega (
       arith,
@@ -111,7 +112,7 @@ module _ (p : IlProgram) (t : Tables) (tabled : IsTabled p t) (old : Machine) (s
       before = refl;
       at = record { in_program = sound.place.in_program; in_routine = sound.place.in_routine; in_block = next.within; call = Call dest q count args; is = next.is; one = refl };
     };
-    same = λ input output calls. call_left {S = List MadeCall} add_call p t tabled old sound dest q count args callee s stack vs input output calls next some found isv fit enters stacks
+    same = λ input output calls. call_left {S = List MadeCall} add_call p t tabled old sound dest q count args callee s stack vs input output calls next some found isv taken fit enters stacks
         ∙ ap (λ (k : ℕ). to_come p t (record { store = s; routine = callee; block = 0; instr = 0; stack = stack; turns = old.turns - 1 }) input output (record { caller = (routine_in p old.routine).pid; site = site_at (routine_in p old.routine) old.block old.instr; callee = k } ∷ calls)) (sym (found_number (λ (r : RoutineParts). r.pid) q p.routines (routine_in p callee) found));
   }
 
@@ -243,6 +244,7 @@ module _ (p : IlProgram) (valid : IsProgram p) (t : Tables) (tabled : IsTabled p
     pub small : q < 2 ^ 17
     pub within : i < length p.routines
     pub found : routine_at p.routines q ≡ Some (routine_in p i)
+    pub taken : length args ≤ (routine_in p i).params
     pub few : length args ≤ (routine_in p i).regs
     pub blocks : 0 < length (routine_in p i).blocks
     pub isdest : IsRegIfSome (routine_in p m.routine).regs dest
@@ -260,6 +262,7 @@ module _ (p : IlProgram) (valid : IsProgram p) (t : Tables) (tabled : IsTabled p
         small = pid_small p valid q c.routine c.is;
         within = subst (λ (n : ℕ). n < length p.routines) (sym e) at.0;
         found = c.is ∙ ap Some (sym same);
+        taken = omega (arith, params);
         few = omega (arith, is_valid.params);
         blocks = is_valid.some_block;
         isdest = v.0;

@@ -51,4 +51,5 @@ returns c =
     (subst (λ (r : RoutineParts). Enters c.args.self.now.store c.enter.new.self vs r.regs c.total-elements.result) viewed c.in_ok-enter.ensures) in
     call_moves _ _ c.requires.tabled _ c.requires.sound c.args.dest c.args.callee c.args.count c.args.args.now c.index-position.result.now c.enter.new.self c.push.new.self vs c.requires.next (omega (arith, c.if-self-eq0.false))
     g.isdest g.found g.within g.blocks few (ap (λ (r : RoutineParts). each (frame_in c.args.self.now.store r).regs c.args.args.now) c.requires.routine)
+    (omega (arith, g.taken, each_length (frame_in c.args.self.now.store c.args.routine.now).regs c.args.args.now))
     (omega (arith, g.few, each_length (frame_in c.args.self.now.store c.args.routine.now).regs c.args.args.now)) enters c.in_ok-push.ensures.items
