@@ -222,7 +222,7 @@ module _ {S : Type 0} where
 
   begin_same : (t : ℕ) (f g : Function → Stmt → Next S) (w : World S) → ((x : Function) (s : Stmt) (l : Locals) → SameFlow t (f x s l w) (g x s l w)) → (o : Option Function) (args : List ℕ) → SameOutcome t (begin f o args w) (begin g o args w)
   begin_same t f g w p None args = (refl, tt)
-  begin_same t f g w p (Some x) args = outcome_same t _ _ (p x x.body (locals_of args))
+  begin_same t f g w p (Some x) args = outcome_same t _ _ (p x x.body (locals_of (length x.params) args))
 
   turn_outcome : (t u : ℕ) (w : World S) (f g : World S → Outcome S) → u ≤ t → ((w1 : World S) → w1.turns < t → SameOutcome w1.turns (f w1) (g w1)) → SameOutcome u (turn_at (ended OutOfTurns w) f w u) (turn_at (ended OutOfTurns w) g w u)
   turn_outcome t zero w f g le p = (refl, tt)
