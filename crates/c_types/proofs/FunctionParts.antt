@@ -9,8 +9,8 @@ use Rattle.c_tree.specs.declared.declaration.Parameter.{Parameter}
 use Rattle.c_types.specs.declared.binding.Binding.TheVariants as bindings
 use Rattle.c_types.specs.declared.definition.Head.{Head}
 use Rattle.c_types.specs.declared.fault.TypeKind.TheVariants as kinds
-use Rattle.c_types.specs.declared.function.Parameter.{Parameter as TypedParameter}
-use Rattle.c_types.specs.declared.function.TypedFunction.{TypedFunction}
+use Rattle.c_typed.specs.declared.function.Parameter.{Parameter as TypedParameter}
+use Rattle.c_typed.specs.declared.function.TypedFunction.{TypedFunction}
 use Rattle.c_types.specs.declared.linkage.Linked.{Linked}
 use Rattle.c_types.specs.declared.specifiers.Site.TheVariants as sites
 use Rattle.c_types.specs.declared.specifiers.Specified.{Specified}

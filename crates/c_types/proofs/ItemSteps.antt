@@ -5,7 +5,7 @@ use Rattle.c_tree.specs.declared.declaration.Declaration.{Declaration}
 use Rattle.c_tree.specs.declared.declaration.Function.{Function}
 use Rattle.c_tree.specs.declared.declaration.Item.{Item}
 use Rattle.c_tree.specs.declared.declaration.Item.TheVariants as items
-use Rattle.c_types.specs.declared.function.TypedFunction.{TypedFunction}
+use Rattle.c_typed.specs.declared.function.TypedFunction.{TypedFunction}
 use Rattle.c_types.specs.DeclarationRules.{file_declaration}
 use Rattle.c_types.specs.Rules.{Here, Reply, Gives, followed, ◌>>=◌, give}
 use Rattle.c_types.specs.Typing.{all_items, function, include}

@@ -8,7 +8,7 @@ use Rattle.hlo_num.specs.declared.word.Ty.{Ty}
 use Rattle.hlo_num.specs.Words.{signed}
 use Rattle.c_types.specs.declared.constant.ConstantValue.{ConstantValue}
 use Rattle.c_types.specs.Constants.{word_of_value}
-use Rattle.c_types.specs.Operators.{is_signed}
+use Rattle.c_typed.specs.Operators.{is_signed}
 use Rattle.c_types.proofs.Orders.{follows_after}
 use Rattle.c_tree.specs.declared.expression.Enumerator.{Enumerator, map-Enumerator}
 use Rattle.c_tree.specs.declared.expression.Expr.{Expr}

@@ -11,10 +11,10 @@ use Rattle.c_tree.specs.declared.statement.Stmt.TheOpen.{Stmt-F}
 use Rattle.c_tree.specs.declared.statement.Stmt.TheFolds.{fold_out-Block, fold-roll-Stmt}
 use Rattle.c_types.specs.declared.fault.TypeFault.{TypeFault}
 use Rattle.c_types.specs.declared.fault.TypeFault.TheVariants as faults
-use Rattle.c_types.specs.declared.statement.Label.{Label}
-use Rattle.c_types.specs.declared.statement.Label.TheVariants as label
-use Rattle.c_types.specs.declared.statement.Section.{Section}
-use Rattle.c_types.specs.declared.statement.TypedStmt.{TypedStmt}
+use Rattle.c_typed.specs.declared.statement.Label.{Label}
+use Rattle.c_typed.specs.declared.statement.Label.TheVariants as label
+use Rattle.c_typed.specs.declared.statement.Section.{Section}
+use Rattle.c_typed.specs.declared.statement.TypedStmt.{TypedStmt}
 use Rattle.c_types.specs.declared.statements.Around.{Around}
 use Rattle.c_types.specs.Follows.{Follows, Tells}
 use Rattle.c_types.specs.Rules.{Here, Reply, Gives, Breaks, Rule, followed, give, ◌>>=◌}

@@ -7,7 +7,7 @@ use Rattle.c_tree.specs.declared.expression.Expr.TheVariants as forms
 use Rattle.c_tree.specs.declared.expression.Expr.TheOpen.{Expr-F}
 use Rattle.c_tree.specs.declared.expression.Expr.TheFolds.{fold-roll-Expr}
 use Rattle.c_tree.specs.declared.expression.Identifier.{Identifier}
-use Rattle.c_types.specs.declared.expression.TypedExpr.{TypedExpr}
+use Rattle.c_typed.specs.declared.expression.TypedExpr.{TypedExpr}
 use Rattle.c_types.specs.declared.specifiers.Part.{Part}
 use Rattle.c_types.specs.declared.specifiers.Site.{Site}
 use Rattle.c_types.specs.declared.specifiers.Specified.{Specified}

@@ -13,13 +13,13 @@ use Rattle.c_types.specs.declared.binding.Extent.TheVariants as extents
 use Rattle.c_types.specs.declared.constant.Evaluated.{Evaluated}
 use Rattle.c_types.specs.declared.constant.Evaluated.TheVariants.{Word, Traps}
 use Rattle.c_types.specs.declared.constant.Constant.{Constant}
-use Rattle.c_types.specs.declared.expression.BinaryOp.{BinaryOp}
-use Rattle.c_types.specs.declared.expression.LogicalOp.{LogicalOp}
-use Rattle.c_types.specs.declared.expression.LogicalOp.TheVariants as logical
+use Rattle.c_typed.specs.declared.expression.BinaryOp.{BinaryOp}
+use Rattle.c_typed.specs.declared.expression.LogicalOp.{LogicalOp}
+use Rattle.c_typed.specs.declared.expression.LogicalOp.TheVariants as logical
 use Rattle.c_types.specs.declared.fault.TypeKind.TheVariants as kinds
 use Rattle.c_types.specs.Conversions.{left_type}
-use Rattle.c_types.specs.Operators.{binary, unary}
-use Rattle.c_types.specs.Expressions.{is_nonzero}
+use Rattle.c_typed.specs.Operators.{binary, unary}
+use Rattle.c_typed.specs.Expressions.{is_nonzero}
 use Rattle.c_types.specs.Rules.{Rule, give, broken}
 
 abbrev pub evaluated : Evaluated → (ℕ → Evaluated) → Evaluated

@@ -9,11 +9,11 @@ use Rattle.c_tree.specs.declared.expression.BinaryOp.{BinaryOp as Written}
 use Rattle.c_tree.specs.declared.expression.BinaryOp.TheVariants as written
 use Rattle.c_tree.specs.declared.expression.UnaryOp.{UnaryOp}
 use Rattle.c_tree.specs.declared.expression.UnaryOp.TheVariants as unaries
-use Rattle.c_types.specs.declared.expression.TypedExpr.{TypedExpr, roll-TypedExpr}
-use Rattle.c_types.specs.declared.expression.Place.TheOpen.{TypedExpr-F}
-use Rattle.c_types.specs.declared.expression.BinaryOp.{BinaryOp}
-use Rattle.c_types.specs.declared.expression.BinaryOp.TheVariants as op
-use Rattle.c_types.specs.declared.expression.LogicalOp.TheVariants as logical
+use Rattle.c_typed.specs.declared.expression.TypedExpr.{TypedExpr, roll-TypedExpr}
+use Rattle.c_typed.specs.declared.expression.Place.TheOpen.{TypedExpr-F}
+use Rattle.c_typed.specs.declared.expression.BinaryOp.{BinaryOp}
+use Rattle.c_typed.specs.declared.expression.BinaryOp.TheVariants as op
+use Rattle.c_typed.specs.declared.expression.LogicalOp.TheVariants as logical
 use Rattle.c_types.specs.declared.conversion.Valued.{Valued}
 use Rattle.c_types.specs.declared.conversion.Operator.{Operator}
 use Rattle.c_types.specs.declared.conversion.Operator.TheVariants.{Skipping, Working}

@@ -9,11 +9,11 @@ use Rattle.c_tree.specs.declared.statement.Block.{Block}
 use Rattle.c_types.specs.declared.binding.Binding.TheVariants as bindings
 use Rattle.c_types.specs.declared.definition.Head.{Head}
 use Rattle.c_types.specs.declared.fault.TypeKind.TheVariants as kinds
-use Rattle.c_types.specs.declared.function.TypedFunction.{TypedFunction}
+use Rattle.c_typed.specs.declared.function.TypedFunction.{TypedFunction}
 use Rattle.c_types.specs.declared.specifiers.Site.TheVariants as sites
 use Rattle.c_types.specs.declared.specifiers.Specified.{Specified}
-use Rattle.c_types.specs.declared.statement.TypedStmt.{roll-TypedStmt}
-use Rattle.c_types.specs.declared.statement.TypedStmt.TheOpen.{TypedStmt-F}
+use Rattle.c_typed.specs.declared.statement.TypedStmt.{roll-TypedStmt}
+use Rattle.c_typed.specs.declared.statement.TypedStmt.TheOpen.{TypedStmt-F}
 use Rattle.c_types.specs.DeclarationRules.{link, parameters}
 use Rattle.c_types.specs.Enumerations.{is_library}
 use Rattle.c_types.specs.ExpressionRules.{specifying}

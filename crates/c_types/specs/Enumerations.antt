@@ -6,7 +6,7 @@ use Rattle.c_tree.specs.declared.expression.Identifier.{Identifier}
 use Rattle.sym_tables.specs.Table.{same_name}
 use Rattle.c_types.specs.declared.binding.Binding.TheVariants as bindings
 use Rattle.c_types.specs.declared.fault.TypeKind.TheVariants as kinds
-use Rattle.c_types.specs.Operators.{is_signed}
+use Rattle.c_typed.specs.Operators.{is_signed}
 use Rattle.c_types.specs.Rules.{Rule, ◌>>=◌, ◌>>◌, give, known, change, unless}
 use Rattle.c_types.specs.Names.{bound_here, bind}
 

@@ -17,9 +17,9 @@ use Rattle.c_tree.specs.declared.expression.Step.{Step}
 use Rattle.c_types.specs.declared.binding.Binding.{Binding}
 use Rattle.c_types.specs.declared.binding.Binding.TheVariants as bindings
 use Rattle.c_types.specs.declared.binding.Library.TheVariants as library
-use Rattle.c_types.specs.declared.expression.TypedExpr.{TypedExpr, roll-TypedExpr}
-use Rattle.c_types.specs.declared.expression.Place.TheOpen.{TypedExpr-F}
-use Rattle.c_types.specs.declared.expression.BinaryOp.{BinaryOp}
+use Rattle.c_typed.specs.declared.expression.TypedExpr.{TypedExpr, roll-TypedExpr}
+use Rattle.c_typed.specs.declared.expression.Place.TheOpen.{TypedExpr-F}
+use Rattle.c_typed.specs.declared.expression.BinaryOp.{BinaryOp}
 use Rattle.c_types.specs.declared.specifiers.Site.{Site}
 use Rattle.c_types.specs.declared.specifiers.Site.TheVariants as sites
 use Rattle.c_types.specs.declared.specifiers.Specified.{Specified}

@@ -6,7 +6,7 @@ use Rattle.c_types.specs.declared.binding.Binding.{Binding}
 use Rattle.c_types.specs.declared.fault.TypeKind.{TypeKind}
 use Rattle.c_types.specs.declared.checker.Awaited.{Awaited}
 use Rattle.c_types.specs.declared.checker.Tag.{Tag}
-use Rattle.c_types.specs.declared.function.Local.{Local}
+use Rattle.c_typed.specs.declared.function.Local.{Local}
 use Rattle.c_types.specs.Scopes.{Scopes}
 
 -- what is known at a place of the module: the names and the enumeration tags in scope; the program's names; the locals of

@@ -16,15 +16,15 @@ use Rattle.c_tree.specs.declared.statement.Stmt.TheOpen.{Stmt-F, Block-F}
 use Rattle.c_types.specs.declared.binding.Binding.TheVariants as bindings
 use Rattle.c_types.specs.declared.binding.Extent.{Extent}
 use Rattle.c_types.specs.declared.binding.Extent.TheVariants as extents
-use Rattle.c_types.specs.declared.expression.TypedExpr.{TypedExpr}
-use Rattle.c_types.specs.declared.function.Local.{Local}
+use Rattle.c_typed.specs.declared.expression.TypedExpr.{TypedExpr}
+use Rattle.c_typed.specs.declared.function.Local.{Local}
 use Rattle.c_types.specs.declared.specifiers.Site.TheVariants as sites
 use Rattle.c_types.specs.declared.specifiers.Specified.{Specified}
-use Rattle.c_types.specs.declared.statement.Label.{Label}
-use Rattle.c_types.specs.declared.statement.Label.TheVariants as labels
-use Rattle.c_types.specs.declared.statement.Section.{Section, roll-Section}
-use Rattle.c_types.specs.declared.statement.TypedStmt.{TypedStmt, roll-TypedStmt}
-use Rattle.c_types.specs.declared.statement.TypedStmt.TheOpen.{TypedStmt-F}
+use Rattle.c_typed.specs.declared.statement.Label.{Label}
+use Rattle.c_typed.specs.declared.statement.Label.TheVariants as labels
+use Rattle.c_typed.specs.declared.statement.Section.{Section, roll-Section}
+use Rattle.c_typed.specs.declared.statement.TypedStmt.{TypedStmt, roll-TypedStmt}
+use Rattle.c_typed.specs.declared.statement.TypedStmt.TheOpen.{TypedStmt-F}
 use Rattle.c_types.specs.declared.statements.Around.{Around}
 use Rattle.c_types.specs.declared.statements.ForHead.{ForHead}
 use Rattle.c_types.specs.declared.fault.TypeKind.TheVariants as kinds

@@ -21,12 +21,12 @@ use Rattle.c_types.specs.declared.checker.Tag.{Tag}
 use Rattle.c_types.specs.declared.fault.TypeFault.{TypeFault}
 use Rattle.c_types.specs.declared.fault.TypeFault.TheVariants as faults
 use Rattle.c_types.specs.declared.fault.TypeKind.TheVariants as kinds
-use Rattle.c_types.specs.declared.function.Parameter.{Parameter as TypedParameter}
-use Rattle.c_types.specs.declared.function.TypedFunction.{TypedFunction}
-use Rattle.c_types.specs.declared.function.TypedModule.{TypedModule}
+use Rattle.c_typed.specs.declared.function.Parameter.{Parameter as TypedParameter}
+use Rattle.c_typed.specs.declared.function.TypedFunction.{TypedFunction}
+use Rattle.c_typed.specs.declared.function.TypedModule.{TypedModule}
 use Rattle.c_types.specs.declared.specifiers.Site.TheVariants as sites
-use Rattle.c_types.specs.declared.statement.TypedStmt.{roll-TypedStmt}
-use Rattle.c_types.specs.declared.statement.TypedStmt.TheOpen.{TypedStmt-F}
+use Rattle.c_typed.specs.declared.statement.TypedStmt.{roll-TypedStmt}
+use Rattle.c_typed.specs.declared.statement.TypedStmt.TheOpen.{TypedStmt-F}
 use Rattle.c_types.specs.DeclarationRules.{link, parameters, file_declaration}
 use Rattle.c_types.specs.Enumerations.{is_library}
 use Rattle.c_types.specs.ExpressionRules.{specifying}

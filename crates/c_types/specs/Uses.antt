@@ -10,13 +10,13 @@ use Rattle.sym_tables.specs.Table.{mark, symbol_at}
 use Rattle.c_types.specs.declared.binding.Binding.{Binding}
 use Rattle.c_types.specs.declared.binding.Binding.TheVariants as bindings
 use Rattle.c_types.specs.declared.binding.Extent.TheVariants as extents
-use Rattle.c_types.specs.declared.expression.TypedExpr.{TypedExpr, roll-TypedExpr}
-use Rattle.c_types.specs.declared.expression.Place.TheOpen.{TypedExpr-F, Place-F}
-use Rattle.c_types.specs.declared.expression.Place.{Place, roll-Place}
-use Rattle.c_types.specs.declared.expression.Variable.{Variable}
-use Rattle.c_types.specs.declared.expression.Variable.TheVariants as variables
-use Rattle.c_types.specs.declared.expression.Array.{Array}
-use Rattle.c_types.specs.declared.expression.Array.TheVariants as arrays
+use Rattle.c_typed.specs.declared.expression.TypedExpr.{TypedExpr, roll-TypedExpr}
+use Rattle.c_typed.specs.declared.expression.Place.TheOpen.{TypedExpr-F, Place-F}
+use Rattle.c_typed.specs.declared.expression.Place.{Place, roll-Place}
+use Rattle.c_typed.specs.declared.expression.Variable.{Variable}
+use Rattle.c_typed.specs.declared.expression.Variable.TheVariants as variables
+use Rattle.c_typed.specs.declared.expression.Array.{Array}
+use Rattle.c_typed.specs.declared.expression.Array.TheVariants as arrays
 use Rattle.c_types.specs.declared.fault.TypeKind.TheVariants as kinds
 use Rattle.c_types.specs.declared.conversion.Typed.{Typed}
 use Rattle.c_types.specs.declared.conversion.Target.{Target}

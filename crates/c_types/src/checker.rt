@@ -9,9 +9,9 @@ ghost use Rattle.c_types.specs.Typing as typing;
 
 use crate::binding::Binding;
 use crate::fault::{TypeFault, TypeKind};
-use crate::function::Local;
 use crate::scopes::{self, Scopes};
 use c_tree::Identifier;
+use c_typed::Local;
 use hlo_num::Name;
 use indexmap::IndexSet;
 use std::alloc::{AllocError, Global};

@@ -2,11 +2,11 @@
 ghost use Rattle.std.specs.Prelude.{◌≡◌};
 ghost use Rattle.hlo_num.specs.Operators.{operate};
 ghost use Rattle.c_types.specs.Constants as specs;
-ghost use Rattle.c_types.specs.Operators as operators;
+ghost use Rattle.c_typed.specs.Operators as operators;
 
 use crate::conversion::left_type;
-use crate::expression::{BinaryOp, LogicalOp};
 use c_tree::UnaryOp;
+use c_typed::{BinaryOp, LogicalOp};
 use hlo_num::{Op, Ty, Word, binary, convert};
 
 /// A word, or the line of the expression that traps in its place.

@@ -2,8 +2,8 @@
 ghost use Rattle.std.specs.Prelude.{◌≡◌, IfOk};
 ghost use Rattle.c_types.specs.Conversions.{arm, common, converted, is_comparison, is_shift, left_type, operand_type, sorted, result_type, right_type, unary_type};
 
-use crate::expression::{BinaryOp, LogicalOp, Place, TypedExpr};
 use c_tree::UnaryOp;
+use c_typed::{BinaryOp, LogicalOp, Place, TypedExpr};
 use hlo_num::{Ty, promote, usual};
 use sqlite_items::Boxed;
 use std::alloc::{AllocError, Global};

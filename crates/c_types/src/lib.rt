@@ -1,5 +1,5 @@
-//! Typed trees: modules in which each name is bound, each expression has its type and each conversion is
-//! a node. `specs/` has what they mean: the meaning of C, and the meaning of linked modules.
+//! The rules of types and linkage: a module's tree is typed by them, with each name bound and each
+//! conversion a node. The typed trees and what they mean stand in `c_typed`.
 #![tactic(auto)]
 
 mod binding;
@@ -7,10 +7,8 @@ mod checker;
 mod constant;
 mod conversion;
 mod definition;
-mod expression;
 mod fault;
 mod file_scope;
-mod function;
 mod lengths;
 mod linkage;
 mod locals;
@@ -20,13 +18,13 @@ mod plain;
 mod scopes;
 mod specifiers;
 mod specifying;
-mod statement;
 mod statements;
 mod typing;
 mod uses;
 
-pub use expression::{Array, BinaryOp, LogicalOp, Place, TypedExpr, Variable};
+pub use c_typed::{
+    Array, BinaryOp, Label, Local, LogicalOp, Parameter, Place, Section, TypedExpr, TypedFunction,
+    TypedModule, TypedStmt, Variable,
+};
 pub use fault::{TypeFault, TypeKind};
-pub use function::{Local, Parameter, TypedFunction, TypedModule};
 pub use module::check;
-pub use statement::{Label, Section, TypedStmt};

@@ -6,13 +6,11 @@ ghost use Rattle.c_types.specs.StatementRules as rules;
 use crate::binding::{Binding, Extent};
 use crate::checker::{Checker, broken};
 use crate::conversion::converted;
-use crate::expression::TypedExpr;
 use crate::fault::{TypeFault, TypeKind};
-use crate::function::Local;
 use crate::lengths::{declares, initialiser_line};
 use crate::specifiers::{Site, Specified};
-use crate::statement::TypedStmt;
 use c_tree::{Declaration, Declarator, Initialiser, Shape};
+use c_typed::{Local, TypedExpr, TypedStmt};
 use hlo_num::Ty;
 
 /// Whether a declarator declares a function.

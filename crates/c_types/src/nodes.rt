@@ -8,9 +8,9 @@ use crate::conversion::{
     Operator, Target, Typed, Valued, arm, converted, left_type, operand_type, result_type,
     right_type, unary_type,
 };
-use crate::expression::{BinaryOp, Place, TypedExpr};
 use crate::uses::{Called, Subscripted};
 use c_tree::{Step, UnaryOp};
+use c_typed::{BinaryOp, Place, TypedExpr};
 use hlo_num::{Ty, Word};
 use sqlite_items::{Boxed, Items};
 use std::alloc::{AllocError, Global};

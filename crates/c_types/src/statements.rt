@@ -5,10 +5,9 @@ ghost use Rattle.c_types.specs.StatementRules as rules;
 
 use crate::checker::{Checker, broken};
 use crate::conversion::converted;
-use crate::expression::TypedExpr;
 use crate::fault::{TypeFault, TypeKind};
-use crate::statement::{Label, Section, TypedStmt};
 use c_tree::{Block, Expr, Stmt};
+use c_typed::{Label, Section, TypedExpr, TypedStmt};
 use hlo_num::{Seq, Ty, Word, convert, promote};
 use sqlite_items::{Boxed, Items};
 use std::alloc::{AllocError, Global};

@@ -9,11 +9,11 @@ ghost use Rattle.c_types.specs.Arms as specs;
 use crate::binding::{Binding, Library};
 use crate::checker::{Checker, broken};
 use crate::conversion::{Target, Typed, Valued, converted, sorted};
-use crate::expression::TypedExpr;
 use crate::fault::{TypeFault, TypeKind};
 use crate::nodes::{self, Arms};
 use crate::specifiers::Site;
 use c_tree::{Expr, Identifier};
+use c_typed::TypedExpr;
 use hlo_num::Ty;
 use sqlite_items::Items;
 

@@ -7,8 +7,8 @@ ghost use Rattle.c_types.specs.Uses as uses;
 use crate::binding::{Binding, Extent};
 use crate::checker::{Checker, broken};
 use crate::conversion::{Target, Typed};
-use crate::expression::{Array, Place, TypedExpr, Variable};
 use crate::fault::{TypeFault, TypeKind};
+use c_typed::{Array, Place, TypedExpr, Variable};
 use hlo_num::{Seq, Ty};
 use sym_tables::Entity;
 

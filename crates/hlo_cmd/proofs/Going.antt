@@ -4,7 +4,7 @@ use Rattle.std.specs.Prelude.{All, Contains}
 use Rattle.std.proofs.Math.Seq.{get_or-append_seam}
 use Rattle.std.proofs.lemmas.List.{get_or-map, length-map, length-take-le, take-append-drop, take-map, take_all, take_more}
 use Rattle.c_tree.specs.declared.declaration.Module.{Module}
-use Rattle.c_types.specs.declared.function.TypedModule.{TypedModule}
+use Rattle.c_typed.specs.declared.function.TypedModule.{TypedModule}
 use Rattle.c_types.specs.Rules.{Here, Gives}
 use Rattle.c_types.specs.Typing.{module_rules, start}
 use Rattle.linker.specs.Linking.{refusal}

@@ -8,7 +8,7 @@ use Rattle.c_parse.specs.declared.fault.ParseFault.TheVariants.{At}
 use Rattle.c_parse.specs.declared.fault.ParseKind.{ParseKind}
 use Rattle.c_tree.specs.declared.declaration.Module.{Module}
 use Rattle.c_tree.specs.declared.token.Token.{Token}
-use Rattle.c_types.specs.declared.function.TypedModule.{TypedModule}
+use Rattle.c_typed.specs.declared.function.TypedModule.{TypedModule}
 use Rattle.c_types.specs.Rules.{Here, Gives, Breaks}
 use Rattle.c_types.specs.Typing.{module_rules, start}
 use Rattle.outside.specs.Told.{Told, Untold, Absent, Holds}

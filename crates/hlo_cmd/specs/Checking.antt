@@ -2,7 +2,7 @@
 use Rattle.std.specs.Prelude.{◌≡◌, ℕ, suc, ◌++◌, List, [], ◌∷◌, length, ⊤}
 use Rattle.c_tree.specs.declared.declaration.Module.{Module}
 use Rattle.c_tree.specs.declared.token.Token.{Token}
-use Rattle.c_types.specs.declared.function.TypedModule.{TypedModule}
+use Rattle.c_typed.specs.declared.function.TypedModule.{TypedModule}
 use Rattle.c_types.specs.Rules.{Here, Gives}
 use Rattle.c_types.specs.Typing.{module_rules, start}
 use Rattle.outside.specs.Faults.{Rose}

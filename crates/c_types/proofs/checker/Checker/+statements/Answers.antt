@@ -1,9 +1,9 @@
 use Rattle.std.proofs.Common.{rules, ◌≡◌, List, [], ◌∷◌, ◌++◌, map, Result, sym, ap, ◌∙◌, subst}
 use Rattle.std.proofs.lemmas.Result.{err_from_is_err_and}
 use Rattle.c_types.specs.declared.fault.TypeFault.{TypeFault}
-use Rattle.c_types.specs.declared.statement.Label.TheVariants as label
-use Rattle.c_types.specs.declared.statement.Section.{Section}
-use Rattle.c_types.specs.declared.statement.TypedStmt.{TypedStmt}
+use Rattle.c_typed.specs.declared.statement.Label.TheVariants as label
+use Rattle.c_typed.specs.declared.statement.Section.{Section}
+use Rattle.c_typed.specs.declared.statement.TypedStmt.{TypedStmt}
 use Rattle.c_types.specs.Follows.{Follows, Tells}
 use Rattle.c_types.specs.Rules.{Gives}
 use Rattle.c_types.specs.StatementRules as sr

@@ -12,12 +12,12 @@ use Rattle.sym_tables.specs.declared.symbol.Standing.{Standing}
 use Rattle.sym_tables.specs.declared.symbol.Standing.TheVariants.{Defined}
 use Rattle.sym_tables.specs.declared.symbol.Symbol.{Symbol}
 use Rattle.sym_tables.specs.Table.{Table}
-use Rattle.c_types.specs.declared.expression.Variable.TheVariants as variables
-use Rattle.c_types.specs.declared.function.Local.{Local}
-use Rattle.c_types.specs.declared.function.Parameter.{Parameter}
-use Rattle.c_types.specs.declared.statement.Label.{Label}
-use Rattle.c_types.specs.declared.statement.Label.TheVariants.{Case}
-use Rattle.c_types.specs.Trees.{Function, Place, Scalar, Expr, Constant, Stmt}
+use Rattle.c_typed.specs.declared.expression.Variable.TheVariants as variables
+use Rattle.c_typed.specs.declared.function.Local.{Local}
+use Rattle.c_typed.specs.declared.function.Parameter.{Parameter}
+use Rattle.c_typed.specs.declared.statement.Label.{Label}
+use Rattle.c_typed.specs.declared.statement.Label.TheVariants.{Case}
+use Rattle.c_typed.specs.Trees.{Function, Place, Scalar, Expr, Constant, Stmt}
 
 -- a function by its PID, the type of its value, its parameters, its locals and its body
 abbrev pub function_of : ℕ → Option Ty → List Parameter → List Local → Stmt → Function

@@ -9,13 +9,13 @@ use Rattle.c_tree.specs.declared.expression.UnaryOp.TheVariants.{Plus, Minus, Co
 use Rattle.sym_tables.specs.declared.entity.Entity.TheVariants.{Function as function, Array as array}
 use Rattle.sym_tables.specs.declared.symbol.Standing.TheVariants.{Tentative, Defined}
 use Rattle.sym_tables.specs.Table.{Table}
-use Rattle.c_types.specs.declared.expression.Array.TheVariants as arrays
-use Rattle.c_types.specs.declared.expression.BinaryOp.TheVariants as op
-use Rattle.c_types.specs.declared.expression.LogicalOp.TheVariants as logical
-use Rattle.c_types.specs.Linked.{run_functions}
-use Rattle.c_types.specs.Trees.{Function, Element as element, Constant, Read, Convert, Discard, Unary, Binary, Logical, Conditional, Comma, Assign, Compound, Prefix, Postfix, Call, GetChar, PutChar, Declaration, Expression, If, Return}
-use Rattle.c_types.specs.Views.{arguments_from, sequence_from as block}
-use Rattle.c_types.proofs.Samples.{function_of, param_of, local_of, int, param, local, row, only_main, seen}
+use Rattle.c_typed.specs.declared.expression.Array.TheVariants as arrays
+use Rattle.c_typed.specs.declared.expression.BinaryOp.TheVariants as op
+use Rattle.c_typed.specs.declared.expression.LogicalOp.TheVariants as logical
+use Rattle.c_typed.specs.Linked.{run_functions}
+use Rattle.c_typed.specs.Trees.{Function, Element as element, Constant, Read, Convert, Discard, Unary, Binary, Logical, Conditional, Comma, Assign, Compound, Prefix, Postfix, Call, GetChar, PutChar, Declaration, Expression, If, Return}
+use Rattle.c_typed.specs.Views.{arguments_from, sequence_from as block}
+use Rattle.c_typed.proofs.Samples.{function_of, param_of, local_of, int, param, local, row, only_main, seen}
 
 -- operands from left to right: 65 by 66 is 0
 --     int main(void) { return putchar(65) / putchar(66); }

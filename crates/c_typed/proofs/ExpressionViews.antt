@@ -5,18 +5,18 @@ use Rattle.hlo_num.specs.declared.word.Ty.{Ty}
 use Rattle.hlo_num.specs.declared.word.Word.{Word}
 use Rattle.c_tree.specs.declared.expression.Step.{Step}
 use Rattle.c_tree.specs.declared.expression.UnaryOp.{UnaryOp}
-use Rattle.c_types.specs.declared.expression.Variable.{Variable}
-use Rattle.c_types.specs.declared.expression.Array.{Array}
-use Rattle.c_types.specs.declared.expression.BinaryOp.{BinaryOp}
-use Rattle.c_types.specs.declared.expression.LogicalOp.{LogicalOp}
-use Rattle.c_types.specs.declared.expression.Place.{Place}
-use Rattle.c_types.specs.declared.expression.Place.TheVariants as places
-use Rattle.c_types.specs.declared.expression.Place.TheOpen.{TypedExpr-F, Place-F}
-use Rattle.c_types.specs.declared.expression.Place.TheFolds.{fold-roll-Place, fold-roll-TypedExpr}
-use Rattle.c_types.specs.declared.expression.TypedExpr.{TypedExpr}
-use Rattle.c_types.specs.declared.expression.TypedExpr.TheVariants as forms
-use Rattle.c_types.specs.Trees as tree
-use Rattle.c_types.specs.Views.{arguments_from, place_layer, expr_layer, place_of, expr_of}
+use Rattle.c_typed.specs.declared.expression.Variable.{Variable}
+use Rattle.c_typed.specs.declared.expression.Array.{Array}
+use Rattle.c_typed.specs.declared.expression.BinaryOp.{BinaryOp}
+use Rattle.c_typed.specs.declared.expression.LogicalOp.{LogicalOp}
+use Rattle.c_typed.specs.declared.expression.Place.{Place}
+use Rattle.c_typed.specs.declared.expression.Place.TheVariants as places
+use Rattle.c_typed.specs.declared.expression.Place.TheOpen.{TypedExpr-F, Place-F}
+use Rattle.c_typed.specs.declared.expression.Place.TheFolds.{fold-roll-Place, fold-roll-TypedExpr}
+use Rattle.c_typed.specs.declared.expression.TypedExpr.{TypedExpr}
+use Rattle.c_typed.specs.declared.expression.TypedExpr.TheVariants as forms
+use Rattle.c_typed.specs.Trees as tree
+use Rattle.c_typed.specs.Views.{arguments_from, place_layer, expr_layer, place_of, expr_of}
 
 pub tree-Variable : (x : Variable) → place_of (places.Variable x) ≡ tree.Scalar x
 tree-Variable x = ap place_of (sym (places.rolls-Variable x)) ∙ fold-roll-Place tree.Place tree.Expr place_layer expr_layer (Place-F.Variable x)

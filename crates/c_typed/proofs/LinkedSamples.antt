@@ -9,13 +9,13 @@ use Rattle.c_tree.specs.declared.expression.UnaryOp.TheVariants.{Not}
 use Rattle.sym_tables.specs.declared.entity.Entity.TheVariants.{Function as function, Scalar as scalar, Array as array}
 use Rattle.sym_tables.specs.declared.symbol.Standing.TheVariants.{Tentative, Defined}
 use Rattle.sym_tables.specs.Table.{Table}
-use Rattle.c_types.specs.declared.expression.Array.TheVariants as arrays
-use Rattle.c_types.specs.declared.expression.BinaryOp.TheVariants as op
-use Rattle.c_types.specs.declared.statement.Label.TheVariants.{Default}
-use Rattle.c_types.specs.Linked.{run_functions}
-use Rattle.c_types.specs.Trees.{Function, Element as element, Read, Convert, Unary, Binary, Assign, Compound, Prefix, Postfix, Call, GetChar, PutChar, None as none, Declaration, Expression, If, IfElse, Switch, While, Return, End, Section}
-use Rattle.c_types.specs.Views.{arguments_from, sequence_from as block}
-use Rattle.c_types.proofs.Samples.{function_of, param_of, local_of, int, param, local, object, label, word, row, seen}
+use Rattle.c_typed.specs.declared.expression.Array.TheVariants as arrays
+use Rattle.c_typed.specs.declared.expression.BinaryOp.TheVariants as op
+use Rattle.c_typed.specs.declared.statement.Label.TheVariants.{Default}
+use Rattle.c_typed.specs.Linked.{run_functions}
+use Rattle.c_typed.specs.Trees.{Function, Element as element, Read, Convert, Unary, Binary, Assign, Compound, Prefix, Postfix, Call, GetChar, PutChar, None as none, Declaration, Expression, If, IfElse, Switch, While, Return, End, Section}
+use Rattle.c_typed.specs.Views.{arguments_from, sequence_from as block}
+use Rattle.c_typed.proofs.Samples.{function_of, param_of, local_of, int, param, local, object, label, word, row, seen}
 
 -- a static function in each module: the name stands for the module's own
 --   module 1:

@@ -9,10 +9,10 @@ use Rattle.sym_tables.specs.declared.symbol.Symbol.{Symbol}
 use Rattle.sym_tables.specs.Entities.{words}
 use Rattle.sym_tables.specs.Symbols.{is_declared}
 use Rattle.sym_tables.specs.Table.{Table, pid_of, symbol_at}
-use Rattle.c_types.specs.declared.function.TypedModule.{TypedModule}
-use Rattle.c_types.specs.Meaning.{Program, call_function}
-use Rattle.c_types.specs.Trees.{Function}
-use Rattle.c_types.specs.Views.{functions_of}
+use Rattle.c_typed.specs.declared.function.TypedModule.{TypedModule}
+use Rattle.c_typed.specs.Meaning.{Program, call_function}
+use Rattle.c_typed.specs.Trees.{Function}
+use Rattle.c_typed.specs.Views.{functions_of}
 
 -- how many words the object of a PID has: one that is defined, or tentatively, in some module; none where the PID
 -- stands for no such object

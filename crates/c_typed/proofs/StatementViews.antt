@@ -1,14 +1,14 @@
 -- The tree of each form of statement.
 use Rattle.std.proofs.Common.{◌≡◌, ℕ, List, sym, ap, ◌∙◌}
 use Rattle.std.specs.Prelude.{Option, map}
-use Rattle.c_types.specs.declared.expression.TypedExpr.{TypedExpr}
-use Rattle.c_types.specs.declared.statement.Section.{Section}
-use Rattle.c_types.specs.declared.statement.TypedStmt.{TypedStmt}
-use Rattle.c_types.specs.declared.statement.TypedStmt.TheVariants as forms
-use Rattle.c_types.specs.declared.statement.TypedStmt.TheOpen.{TypedStmt-F}
-use Rattle.c_types.specs.declared.statement.TypedStmt.TheFolds.{fold-roll-TypedStmt, fold_out-Section}
-use Rattle.c_types.specs.Trees as tree
-use Rattle.c_types.specs.Views.{expr_of, optional_of, sequence_from, sections_from, section_layer, stmt_layer, stmt_of, section_of}
+use Rattle.c_typed.specs.declared.expression.TypedExpr.{TypedExpr}
+use Rattle.c_typed.specs.declared.statement.Section.{Section}
+use Rattle.c_typed.specs.declared.statement.TypedStmt.{TypedStmt}
+use Rattle.c_typed.specs.declared.statement.TypedStmt.TheVariants as forms
+use Rattle.c_typed.specs.declared.statement.TypedStmt.TheOpen.{TypedStmt-F}
+use Rattle.c_typed.specs.declared.statement.TypedStmt.TheFolds.{fold-roll-TypedStmt, fold_out-Section}
+use Rattle.c_typed.specs.Trees as tree
+use Rattle.c_typed.specs.Views.{expr_of, optional_of, sequence_from, sections_from, section_layer, stmt_layer, stmt_of, section_of}
 
 pub tree-Block : (ss : List TypedStmt) → stmt_of (forms.Block ss) ≡ sequence_from (map stmt_of ss)
 tree-Block ss = ap stmt_of (sym (forms.rolls-Block ss)) ∙ fold-roll-TypedStmt tree.Stmt (tree.Sections → tree.Sections) stmt_layer section_layer (TypedStmt-F.Block ss)

@@ -13,7 +13,7 @@ use Rattle.sym_tables.specs.Listing.{is_object, objects_from, objects, trimmed, 
 use Rattle.sym_tables.specs.Sound.{FitsWords}
 use Rattle.sym_tables.specs.Symbols.{is_declared}
 use Rattle.sym_tables.specs.Table.{Table, symbol_at}
-use Rattle.c_types.specs.Linked.{words_of, words_at, word_at_start, words_at_start}
+use Rattle.c_typed.specs.Linked.{words_of, words_at, word_at_start, words_at_start}
 
 -- the object that what is known of a PID makes
 abbrev object_of : ℕ → Option Symbol → Option ObjectParts

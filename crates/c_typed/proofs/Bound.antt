@@ -1,5 +1,5 @@
 -- Two bounds above the turns left give the same, and turns never come back.
-use Rattle.std.proofs.Common.{◌≡◌, ℕ, zero, suc, ◌<◌, ◌≤◌, List, Bool, true, false, refl, ap, sym, ◌∙◌, arith}
+use Rattle.std.proofs.Common.{◌≡◌, ℕ, zero, suc, ◌<◌, ◌≤◌, List, Bool, true, false, refl, ap, sym, ◌∙◌, arith, length}
 use Rattle.std.specs.Prelude.{if◌then◌else◌, nat_lt, Option, Some, None, Result, Ok, Err, ⊤}
 use Rattle.std.specs.List.{list_any}
 use Rattle.hlo_num.specs.declared.word.Ty.{Ty}
@@ -8,18 +8,18 @@ use Rattle.hlo_num.specs.declared.word.Trap.TheVariants.{Index}
 use Rattle.hlo_num.specs.Words.{convert, promote}
 use Rattle.il_core.specs.World.{World, Trapped, OutOfTurns, Outcome, Returns, Ends, Stuck, ended, turn, turn_at, choose, put_element, with_object}
 use Rattle.il_core.specs.Meaning.{Lengths}
-use Rattle.c_types.specs.declared.expression.Array.TheVariants as arrays
-use Rattle.c_types.specs.declared.expression.BinaryOp.{BinaryOp}
-use Rattle.c_types.specs.declared.expression.LogicalOp.{LogicalOp}
-use Rattle.c_types.specs.declared.expression.LogicalOp.TheVariants as logical
-use Rattle.c_types.specs.declared.expression.Variable.TheVariants as variables
-use Rattle.c_types.specs.declared.statement.Label.{Label}
-use Rattle.c_types.specs.Operators.{binary, unary, step_op}
-use Rattle.c_types.specs.Results.{Locals, Value, Is, Cut, Flow, Normal, Breaks, Continues, Leaves, and_then, and_do, and_next, and_again, switched, word_or_trap, inside, called, outcome}
-use Rattle.c_types.specs.Trees.{Place, Scalar, Element, Expr, Constant, Read, Convert, Discard, Unary, Binary, Logical, Conditional, Comma, Assign, Compound, Prefix, Postfix, Call, GetChar, PutChar, Exit, Arguments, None as none, Argument, Stmt, Empty, Sequence, Declaration, Expression, If, IfElse, Switch, While, Do, For, Break, Continue, Return, Sections, End, Section, Function}
-use Rattle.c_types.specs.Expressions.{Spot, Whole, Part, length_of, element_in, load, store, decide, update, Calls, expr, place, arguments}
-use Rattle.c_types.specs.Statements.{Next, optional, condition, returned, stmt, run, enter, is_target}
-use Rattle.c_types.specs.Meaning.{Program, function_at, lengths, locals_of, begin, flow, call_function}
+use Rattle.c_typed.specs.declared.expression.Array.TheVariants as arrays
+use Rattle.c_typed.specs.declared.expression.BinaryOp.{BinaryOp}
+use Rattle.c_typed.specs.declared.expression.LogicalOp.{LogicalOp}
+use Rattle.c_typed.specs.declared.expression.LogicalOp.TheVariants as logical
+use Rattle.c_typed.specs.declared.expression.Variable.TheVariants as variables
+use Rattle.c_typed.specs.declared.statement.Label.{Label}
+use Rattle.c_typed.specs.Operators.{binary, unary, step_op}
+use Rattle.c_typed.specs.Results.{Locals, Value, Is, Cut, Flow, Normal, Breaks, Continues, Leaves, and_then, and_do, and_next, and_again, switched, word_or_trap, inside, called, outcome}
+use Rattle.c_typed.specs.Trees.{Place, Scalar, Element, Expr, Constant, Read, Convert, Discard, Unary, Binary, Logical, Conditional, Comma, Assign, Compound, Prefix, Postfix, Call, GetChar, PutChar, Exit, Arguments, None as none, Argument, Stmt, Empty, Sequence, Declaration, Expression, If, IfElse, Switch, While, Do, For, Break, Continue, Return, Sections, End, Section, Function}
+use Rattle.c_typed.specs.Expressions.{Spot, Whole, Part, length_of, element_in, load, store, decide, update, Calls, expr, place, arguments}
+use Rattle.c_typed.specs.Statements.{Next, optional, condition, returned, stmt, run, enter, is_target}
+use Rattle.c_typed.specs.Meaning.{Program, function_at, lengths, locals_of, begin, flow, call_function}
 
 module _ {S : Type 0} where
   -- no more than t turns are left
@@ -222,7 +222,7 @@ module _ {S : Type 0} where
 
   begin_same : (t : ℕ) (f g : Function → Stmt → Next S) (w : World S) → ((x : Function) (s : Stmt) (l : Locals) → SameFlow t (f x s l w) (g x s l w)) → (o : Option Function) (args : List ℕ) → SameOutcome t (begin f o args w) (begin g o args w)
   begin_same t f g w p None args = (refl, tt)
-  begin_same t f g w p (Some x) args = outcome_same t _ _ (p x x.body (locals_of args))
+  begin_same t f g w p (Some x) args = outcome_same t _ _ (p x x.body (locals_of (length x.params) args))
 
   turn_outcome : (t u : ℕ) (w : World S) (f g : World S → Outcome S) → u ≤ t → ((w1 : World S) → w1.turns < t → SameOutcome w1.turns (f w1) (g w1)) → SameOutcome u (turn_at (ended OutOfTurns w) f w u) (turn_at (ended OutOfTurns w) g w u)
   turn_outcome t zero w f g le p = (refl, tt)
