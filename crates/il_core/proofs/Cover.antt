@@ -1,4 +1,4 @@
--- Two rising lists of numbers that lie apart in a third one, and are ls long ls it together, are all of it.
+-- Two rising lists of numbers that lie apart in a third one, and are as long as it together, are all of it.
 use Rattle.std.proofs.Common.{◌≡◌, ℕ, ◌+◌, ◌<◌, ◌≤◌, List, [], ◌∷◌, length, refl, ap, subst, sym, arith, inl, inr}
 use Rattle.std.specs.Prelude.{◌⊎◌, ⊤}
 use Rattle.std.proofs.lemmas.Bool.{cases_eq}
@@ -49,7 +49,8 @@ rest_in : (k : ℕ) (ks ls : List ℕ) → AllIn ls (k ∷ ks) → (In k ls → 
 rest_in k ks ls all none = record { by = λ q h. elim (all.by q h) [ inl e ↦ absurd (none (subst (λ (n : ℕ). In n ls) e h)) | inr h1 ↦ h1 ] }
 
 rest_behind : (k : ℕ) (ks xs : List ℕ) → AllIn (k ∷ xs) (k ∷ ks) → Above k xs → AllIn xs ks
-rest_behind k ks xs all above = record { by = λ q h. elim (all.by q (inr h)) [ inl e ↦ let m = above_in k xs q above h in absurd (omega (arith, m)) | inr h1 ↦ h1 ] }
+rest_behind k ks xs all above =
+    record { by = λ q h. elim (all.by q (inr h)) [ inl e ↦ let m = above_in k xs q above h in absurd (omega (arith, m)) | inr h1 ↦ h1 ] }
 
 pub record Covers (ks ls ms : List ℕ) : Type 0 where
   pub few : length ls + length ms ≤ length ks
@@ -80,13 +81,15 @@ covers (k ∷ ks) ls ms rk ra rb ia ib apart =
           let inner : AllIn (k ∷ s.rest) (k ∷ ks) = subst (λ (l : List ℕ). AllIn l (k ∷ ks)) s.same ia in
           let apart1 : Apart (k ∷ s.rest) ms = subst (λ (l : List ℕ). Apart l ms) s.same apart in
           subst (λ (l : List ℕ). Covers (k ∷ ks) l ms) (sym s.same) (left_first k ks s.rest ms
-          (covers ks s.rest ms (above_rises k ks rk) (above_rises k s.rest s.above) rb (rest_behind k ks s.rest inner s.above) (rest_in k ks ms ib (apart1.by k (inl refl))) (record { by = λ q h. apart1.by q (inr h) })))
+          (covers ks s.rest ms (above_rises k ks rk) (above_rises k s.rest s.above) rb (rest_behind k ks s.rest inner s.above)
+          (rest_in k ks ms ib (apart1.by k (inl refl))) (record { by = λ q h. apart1.by q (inr h) })))
       | inr na ↦ elim (first k ks ms rk rb ib) [
         | inl s ↦
             let inner : AllIn (k ∷ s.rest) (k ∷ ks) = subst (λ (l : List ℕ). AllIn l (k ∷ ks)) s.same ib in
             let apart1 : Apart ls (k ∷ s.rest) = subst (λ (l : List ℕ). Apart ls l) s.same apart in
             subst (λ (l : List ℕ). Covers (k ∷ ks) ls l) (sym s.same) (right_first k ks ls s.rest
-            (covers ks ls s.rest (above_rises k ks rk) ra (above_rises k s.rest s.above) (rest_in k ks ls ia na) (rest_behind k ks s.rest inner s.above) (record { by = λ q h h1. apart1.by q h (inr h1) })))
+            (covers ks ls s.rest (above_rises k ks rk) ra (above_rises k s.rest s.above) (rest_in k ks ls ia na)
+            (rest_behind k ks s.rest inner s.above) (record { by = λ q h h1. apart1.by q h (inr h1) })))
         | inr nb ↦
             let c = covers ks ls ms (above_rises k ks rk) ra rb (rest_in k ks ls ia na) (rest_in k ks ms ib nb) apart in
             record { few = omega (arith, c.few); all = λ long q h. absurd (omega (arith, c.few)) }
