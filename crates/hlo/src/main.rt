@@ -22,30 +22,56 @@ usage: hlo opt FILE        prints the IL of the C module in FILE
 
 const VERSION: &str = "hlo 0.1.0";
 
-fn main(rt: HostRuntime) -> io::Result<ExitCode> {
-    let words: Vec<String> = env::args(&rt)?.skip(1).collect(rt.alloc())?;
-    if words.len() == 1 {
-        match words[0].as_str() {
-            "--help" => {
-                print!(rt; "{HELP}")?;
-                return Ok(ExitCode::SUCCESS);
-            }
-            "--version" => {
-                println!(rt; "{VERSION}")?;
-                return Ok(ExitCode::SUCCESS);
-            }
-            _ => {}
+fn main(rt: HostRuntime) -> ExitCode {
+    match words_of(&rt) {
+        Ok(words) => match words.as_slice() {
+            [word] if word.as_str() == "--help" => ended(&rt, print!(rt; "{HELP}")),
+            [word] if word.as_str() == "--version" => ended(&rt, println!(rt; "{VERSION}")),
+            words => command(&rt, words),
+        },
+        Err(error) => refused(&rt, error),
+    }
+}
+
+/// The words behind the program's name.
+fn words_of(rt: &HostRuntime) -> io::Result<Vec<String>> {
+    Ok(env::args(rt)?.skip(1).collect(rt.alloc())?)
+}
+
+/// The end where the words can't be had: one that isn't UTF-8 is a faulty command line.
+fn refused(rt: &HostRuntime, error: io::Error) -> ExitCode {
+    let (status, line) = match error.kind() {
+        io::ErrorKind::OutOfMemory => (10, "hlo: out of memory"),
+        _ => (2, "hlo: usage"),
+    };
+    let _ = eprintln!(rt; "{line}");
+    ExitCode::from(status)
+}
+
+/// The end of `--help` and `--version`.
+fn ended(rt: &HostRuntime, written: io::Result<()>) -> ExitCode {
+    match written {
+        Ok(()) => ExitCode::SUCCESS,
+        Err(_) => {
+            let _ = eprintln!(rt; "hlo: cannot write");
+            ExitCode::from(6)
         }
     }
-    let mut shelf = FileShelf::new(&rt);
+}
+
+/// Runs a command over the real objects.
+fn command(rt: &HostRuntime, words: &[String]) -> ExitCode {
+    let mut shelf = FileShelf::new(rt);
     let mut out = Stream::new(rt.stdout());
     let mut err = Stream::new(rt.stderr());
     let status = match words.first() {
         Some(word) if word.as_str() == "opt" => {
-            let disk = SureDisk::new(rt.alloc(), 0)?;
+            let Ok(disk) = SureDisk::new(rt.alloc(), 0) else {
+                return refused(rt, io::Error::from(io::ErrorKind::OutOfMemory));
+            };
             let answer = opt_command(
                 rt.alloc(),
-                words.as_slice(),
+                words,
                 &mut shelf,
                 &mut out,
                 &mut err,
@@ -58,7 +84,7 @@ fn main(rt: HostRuntime) -> io::Result<ExitCode> {
             let mut input = Input::new(rt.stdin());
             plain_command(
                 rt.alloc(),
-                words.as_slice(),
+                words,
                 &mut shelf,
                 &mut input,
                 &mut out,
@@ -66,5 +92,5 @@ fn main(rt: HostRuntime) -> io::Result<ExitCode> {
             )
         }
     };
-    Ok(ExitCode::from(status.0))
+    ExitCode::from(status.0)
 }

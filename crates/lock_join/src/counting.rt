@@ -63,16 +63,20 @@ pub fn count<W: Threads + Wait + Sync>(
     Ok(lock.finish(p, t))
 }
 
-/// Two workers add 1 each to a number that begins at 0, the second after the first.
-pub fn count_in_order<W: Threads + Wait + Sync>(rt: &W, alloc: Global) -> Result<u64, AllocError>
-    ensures { IfOk result (λ number. number ≡ 2) }
+/// Two workers add 1 each to a number that begins at 0, one after the other. The answer is the number
+/// in the end, and the number that the second found.
+pub fn count_in_order<W: Threads + Wait + Sync>(
+    rt: &W,
+    alloc: Global,
+) -> Result<(u64, u64), AllocError>
+    ensures { IfOk result (λ numbers. numbers.0 ≡ 2) }
 {
     let (lock, p) = match Lock::<Counted>::make(alloc, (), 0, 0, 2) {
         Ok(made) => made,
         Err((_, error)) => return Err(error),
     };
-    let (p, _) = work_after_another(rt, &lock, p, 0);
+    let (p, _, found) = work_after_another(rt, &lock, p, 0);
     let mut p = p;
     let t = lock.take(rt, &mut p);
-    Ok(lock.finish(p, t))
+    Ok((lock.finish(p, t), found))
 }

@@ -12,7 +12,9 @@ fn workers_by_repeated_halving_lose_no_addition(rt: HostRuntime) {
 #[test]
 fn a_pass_rests_until_another_gave(rt: HostRuntime) {
     for _ in 0..100u32 {
-        let number = count_in_order(&rt, rt.alloc()).expect(&rt, "memory");
+        let (number, found) = count_in_order(&rt, rt.alloc()).expect(&rt, "memory");
         assert_eq!(rt; number, 2);
+        // The one that rests would be the first to add, as the thread of the other has yet to start.
+        assert_eq!(rt; found, 1);
     }
 }

@@ -95,16 +95,17 @@ where
     (p, note)
 }
 
-/// Two workers, of which the second rests until the first has given.
+/// Two workers, of which one rests until the other has given. The last part of the answer is the
+/// state in which the one that rested found the lock.
 pub fn work_after_another<R: Job + Send, W: Threads + Wait + Sync>(
     rt: &W,
     lock: &Lock<R>,
     p: Pass<R>,
     note: R::Note,
-) -> (Pass<R>, R::Note)
+) -> (Pass<R>, R::Note, R::State)
 where
     R::Name: Send,
-    R::State: Send,
+    R::State: Copy + Send,
     R::Note: Copy + Send,
     requires ready { IsReady lock.now p note }
     requires share { 1 < share_of (view_of p) }
@@ -116,24 +117,26 @@ where
     let Ok(q) = lock.split(&mut p, 1, note, fresh) else {
         unreachable!()
     };
-    let ((q, two), (mut p, one)) = join(
+    let ((q, two), (mut p, one, found)) = join(
         rt,
         move || work(rt, lock, q, fresh, 1),
         move || rest_and_work(rt, lock, p, note),
     );
     let note = R::together(one, two);
     lock.end(&mut p, q, note);
-    (p, note)
+    (p, note, found)
 }
 
-/// Rests until another pass has given, and then does one piece of work.
+/// Rests until another pass has given, and then does one piece of work. It answers the state in which
+/// it found the lock too.
 fn rest_and_work<R: Job, W: Wait>(
     rt: &W,
     lock: &Lock<R>,
     p: Pass<R>,
     note: R::Note,
-) -> (Pass<R>, R::Note)
+) -> (Pass<R>, R::Note, R::State)
 where
+    R::State: Copy,
     R::Note: Copy,
     requires ready { IsReady lock.now p note }
     requires room { R.amount note + 1 < 2 ^ 64 }
@@ -142,5 +145,8 @@ where
 {
     let mut p = p;
     lock.rest(rt, &mut p);
-    work(rt, lock, p, note, 1)
+    let Turn { state, taken } = lock.take(rt, &mut p);
+    let (next, note) = R::step(state, note);
+    lock.give(&mut p, Turn { state: next, taken }, note);
+    (p, note, state)
 }

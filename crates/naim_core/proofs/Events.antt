@@ -27,12 +27,7 @@ use Rattle.naim_core.specs.declared.pool.Stage.{Stage}
 use Rattle.naim_core.specs.declared.pool.Stage.TheVariants as stage
 use Rattle.naim_core.specs.declared.state.Hand.{Hand}
 use Rattle.naim_core.proofs.Maps.{same_number, number_itself, other_number, sum_removed, apart_number, head_absent, apart_from_none}
-use Rattle.naim_core.proofs.Keeps.{one, Swapped, swapped_front, swapped_in_place, Fits, Change, change_sound}
-
--- a place that holds p
-pub holds_is : (o : Option ℕ) (p : ℕ) → holds o p ≡ true → o ≡ Some p
-holds_is None p t = cc
-holds_is (Some q) p t = ap (λ k. Some k) (same_number q p t)
+use Rattle.naim_core.proofs.Keeps.{one, Swapped, swapped_front, swapped_in_place, Fits, Change, holds_is, change_sound}
 
 -- a place that keeps what it holds, takes p, or lets p go
 fits_same : (number : Stage → ℕ) (p : ℕ) (x y : Pool) (a : Option ℕ) → number y.stage ≡ number x.stage → Fits number p x y a a
@@ -56,9 +51,10 @@ change_at : (s : Core) (p w : ℕ) (x y : Pool) (h g : Hand) (pools : List (ℕ 
     Fits read_pins p x y h.read g.read → Fits write_pins p x y h.written g.written → Fits movers p x y h.moved g.moved →
     KeepsPin pools g → ((m : Mode) (d : Bool) → y.stage ≡ stage.Reloading m d → movers x.stage ≡ 0) →
     one (moves_by_disk y.stage) + one (is_some s.disk) ≡ one (moves_by_disk x.stage) + one (is_some disk) →
+    ((v : ℕ) → disk ≡ Some v → (s.disk ≡ Some v) ⊎ ((v ≡ w) × (moves_by_disk y.stage ≡ true) × (g.moved ≡ Some p))) →
     g.task ≡ h.task → (s.in_wave ≡ true → (q : ℕ) → g.written ≡ Some q → g.task ≡ Some q) →
     IsSound (record s { pools = pools; hands = slice_set s.hands w g; disk = disk })
-change_at s p w x y h g pools disk sound at hand swap fits under reads writes moves pins fresh home task own =
+change_at s p w x y h g pools disk sound at hand swap fits under reads writes moves pins fresh home owner task own =
     change_sound s (record s { pools = pools; hands = slice_set s.hands w g; disk = disk }) p w x y h g sound (record {
       pool = at;
       hand = hand;
@@ -73,6 +69,7 @@ change_at s p w x y h g pools disk sound at hand swap fits under reads writes mo
       pins = pins;
       fresh = fresh;
       disk = home;
+      owner = owner;
       in_wave = refl;
       tasks = refl;
       kept = λ t. ap (λ o. count_by (nat_eq t) s.unclaimed + count_by (nat_eq t) s.done + one (holds o t)) task;
@@ -171,14 +168,14 @@ pin_read_sound s p w stage.Free e c t wr None m sound at hand ok =
     change_at s p w x y h g (front p y s.pools) s.disk sound at hand swap
     (fit_at s.limit stage.Free (stage.Read 1) e c (sound.forms_fit p x at) (omega arith)) (let u = sound.under_fits in omega arith)
     (fits_take read_pins p x y refl) (fits_same write_pins p x y wr refl) (fits_same movers p x y m refl)
-    (pins_same s p w x y h g (front p y s.pools) sound hand swap (λ m d e. cc) refl (λ q d e. cc) (λ q d e. e)) (λ m d e. cc) refl refl (λ i. sound.own_task i w h hand)
+    (pins_same s p w x y h g (front p y s.pools) sound hand swap (λ m d e. cc) refl (λ q d e. cc) (λ q d e. e)) (λ m d e. cc) refl (λ v o. inl o) refl (λ i. sound.own_task i w h hand)
 pin_read_sound s p w (stage.Read n) e c t wr None m sound at hand ok =
     let x = at_stage (stage.Read n) e c in let y = at_stage (stage.Read (n + 1)) e c in let h = hand_of t wr None m in let g = hand_of t wr (Some p) m in
     let swap = swapped_front p x y s.pools sound.one_pool at in
     change_at s p w x y h g (front p y s.pools) s.disk sound at hand swap
     (fit_at s.limit (stage.Read n) (stage.Read (n + 1)) e c (sound.forms_fit p x at) (omega arith)) (let u = sound.under_fits in omega arith)
     (fits_take read_pins p x y refl) (fits_same write_pins p x y wr refl) (fits_same movers p x y m refl)
-    (pins_same s p w x y h g (front p y s.pools) sound hand swap (λ m d e. cc) refl (λ q d e. cc) (λ q d e. e)) (λ m d e. cc) refl refl (λ i. sound.own_task i w h hand)
+    (pins_same s p w x y h g (front p y s.pools) sound hand swap (λ m d e. cc) refl (λ q d e. cc) (λ q d e. e)) (λ m d e. cc) refl (λ v o. inl o) refl (λ i. sound.own_task i w h hand)
 pin_read_sound s p w _ e c t wr None m sound at hand ok = cc
 
 -- a worker that may write p in a wave has it as its task
@@ -201,36 +198,43 @@ pin_write_sound s p w room stage.Free e c t None r m sound at hand ok =
     change_at s p w x y h g (front p y s.pools) s.disk sound at hand swap
     (fit_at s.limit stage.Free (stage.Written room) e c (sound.forms_fit p x at) (not_above room (2 ^ 41) size.0)) (let u = sound.under_fits in omega arith)
     (fits_same read_pins p x y r refl) (fits_take write_pins p x y refl) (fits_same movers p x y m refl)
-    (pins_same s p w x y h g (front p y s.pools) sound hand swap (λ m d e. cc) refl (λ q d e. e) (λ q d e. cc)) (λ m d e. cc) refl refl (own_task_of s.in_wave t p task.0)
+    (pins_same s p w x y h g (front p y s.pools) sound hand swap (λ m d e. cc) refl (λ q d e. e) (λ q d e. cc)) (λ m d e. cc) refl (λ v o. inl o) refl (own_task_of s.in_wave t p task.0)
 pin_write_sound s p w room _ e c t None r m sound at hand ok = let task = permit_head (s.in_wave && not (holds t p)) NoTask _ ok in false_ok task.1
+
+-- the disk is out as it was, or out with w, which moves p by it
+abbrev TakesDisk : Core → ℕ → ℕ → Bool → Option ℕ → Type 0
+TakesDisk s w p by_disk disk = (v : ℕ) → disk ≡ Some v → (s.disk ≡ Some v) ⊎ ((v ≡ w) × (by_disk ≡ true) × (Some p ≡ Some p))
+
+taken : (s : Core) (w p : ℕ) → TakesDisk s w p true (Some w)
+taken s w p v o = inr (sym (same_Some w v o), refl, refl)
 
 -- a reload for reading
 reload_read : (s : Core) (p w : ℕ) (st : Stage) (d : Bool) (e c : ℕ) (t wr : Option ℕ) (disk : Option ℕ) → IsSound s → pool_at s.pools p ≡ Some (at_stage st e c) → slice_get s.hands w ≡ Some (hand_of t wr None None) →
-    read_pins st ≡ 0 → write_pins st ≡ 0 → movers st ≡ 0 → one d + one (is_some s.disk) ≡ one (moves_by_disk st) + one (is_some disk) →
+    read_pins st ≡ 0 → write_pins st ≡ 0 → movers st ≡ 0 → one d + one (is_some s.disk) ≡ one (moves_by_disk st) + one (is_some disk) → TakesDisk s w p d disk →
     IsSound (record s { pools = in_place p (at_stage (stage.Reloading mode.Read d) e c) s.pools; hands = slice_set s.hands w (hand_of t wr (Some p) (Some p)); disk = disk })
-reload_read s p w st d e c t wr disk sound at hand r0 w0 m0 home =
+reload_read s p w st d e c t wr disk sound at hand r0 w0 m0 home owner =
     let x = at_stage st e c in let y = at_stage (stage.Reloading mode.Read d) e c in let h = hand_of t wr None None in let g = hand_of t wr (Some p) (Some p) in
     let swap = swapped_in_place p x y s.pools sound.one_pool at in
     change_at s p w x y h g (in_place p y s.pools) disk sound at hand swap
     (fit_at s.limit st (stage.Reloading mode.Read d) e c (sound.forms_fit p x at) (omega arith)) (let u = sound.under_fits in omega arith)
     (fits_take read_pins p x y (sym (ap (λ n. n + 1) r0))) (fits_same write_pins p x y wr (sym w0)) (fits_take movers p x y (sym (ap (λ n. n + 1) m0)))
     (λ q z b moved is. ((λ r. moved), (λ room r. let zy = same_here p q x y z s.pools (in_place p y s.pools) swap (same_Some p q moved) is in let k : stage.Reloading mode.Read d ≡ stage.Reloading (mode.Write room) b = ap (λ v. v.stage) zy ∙ r in absurd (two_modes d b room k))))
-    (λ m b e. m0) home refl (λ i. sound.own_task i w h hand)
+    (λ m b e. m0) home owner refl (λ i. sound.own_task i w h hand)
   where
     two_modes : (d b : Bool) (room : ℕ) → stage.Reloading mode.Read d ≡ stage.Reloading (mode.Write room) b → ⊥
     two_modes d b room k = let m : mode.Read ≡ mode.Write room = cc in cc
 
 reload_write : (s : Core) (p w room : ℕ) (st : Stage) (d : Bool) (e c : ℕ) (t r : Option ℕ) (disk : Option ℕ) → IsSound s → pool_at s.pools p ≡ Some (at_stage st e c) → slice_get s.hands w ≡ Some (hand_of t None r None) →
-    read_pins st ≡ 0 → write_pins st ≡ 0 → movers st ≡ 0 → one d + one (is_some s.disk) ≡ one (moves_by_disk st) + one (is_some disk) → room ≤ 2 ^ 41 → (s.in_wave && not (holds t p)) ≡ false →
+    read_pins st ≡ 0 → write_pins st ≡ 0 → movers st ≡ 0 → one d + one (is_some s.disk) ≡ one (moves_by_disk st) + one (is_some disk) → TakesDisk s w p d disk → room ≤ 2 ^ 41 → (s.in_wave && not (holds t p)) ≡ false →
     IsSound (record s { pools = in_place p (at_stage (stage.Reloading (mode.Write room) d) e c) s.pools; hands = slice_set s.hands w (hand_of t (Some p) r (Some p)); disk = disk })
-reload_write s p w room st d e c t r disk sound at hand r0 w0 m0 home fits task =
+reload_write s p w room st d e c t r disk sound at hand r0 w0 m0 home owner fits task =
     let x = at_stage st e c in let y = at_stage (stage.Reloading (mode.Write room) d) e c in let h = hand_of t None r None in let g = hand_of t (Some p) r (Some p) in
     let swap = swapped_in_place p x y s.pools sound.one_pool at in
     change_at s p w x y h g (in_place p y s.pools) disk sound at hand swap
     (fit_at s.limit st (stage.Reloading (mode.Write room) d) e c (sound.forms_fit p x at) fits) (let u = sound.under_fits in omega arith)
     (fits_same read_pins p x y r (sym r0)) (fits_take write_pins p x y (sym (ap (λ n. n + 1) w0))) (fits_take movers p x y (sym (ap (λ n. n + 1) m0)))
     (λ q z b moved is. ((λ k. let zy = same_here p q x y z s.pools (in_place p y s.pools) swap (same_Some p q moved) is in let l : stage.Reloading (mode.Write room) d ≡ stage.Reloading mode.Read b = ap (λ v. v.stage) zy ∙ k in absurd (two_modes d b room l)), (λ n k. moved)))
-    (λ m b e. m0) home refl (own_task_of s.in_wave t p task)
+    (λ m b e. m0) home owner refl (own_task_of s.in_wave t p task)
   where
     two_modes : (d b : Bool) (room : ℕ) → stage.Reloading (mode.Write room) d ≡ stage.Reloading mode.Read b → ⊥
     two_modes d b room k = let m : mode.Write room ≡ mode.Read = cc in cc
@@ -241,30 +245,30 @@ pub reload_begin_sound : (s : Core) (p w : ℕ) (m : Mode) (st : Stage) (e c : �
 reload_begin_sound s p w m st e c t wr r (Some k) sound at hand ok = cc
 reload_begin_sound s p w mode.Read st e c t wr (Some k) None sound at hand ok = cc
 reload_begin_sound s p w (mode.Write room) st e c t (Some k) r None sound at hand ok = cc
-reload_begin_sound s p w mode.Read stage.Compacted e c t wr None None sound at hand ok = reload_read s p w stage.Compacted false e c t wr s.disk sound at hand refl refl refl refl
+reload_begin_sound s p w mode.Read stage.Compacted e c t wr None None sound at hand ok = reload_read s p w stage.Compacted false e c t wr s.disk sound at hand refl refl refl refl (λ v o. inl o)
 reload_begin_sound s p w mode.Read stage.Offloaded e c t wr None None sound at hand ok =
-    let out = permit_head (is_some s.disk) DiskOut _ ok in reload_read s p w stage.Offloaded true e c t wr (Some w) sound at hand refl refl refl (ap (λ b. 1 + one b) out.0)
+    let out = permit_head (is_some s.disk) DiskOut _ ok in reload_read s p w stage.Offloaded true e c t wr (Some w) sound at hand refl refl refl (ap (λ b. 1 + one b) out.0) (taken s w p)
 reload_begin_sound s p w mode.Read _ e c t wr None None sound at hand ok = cc
 reload_begin_sound s p w (mode.Write room) stage.Compacted e c t None r None sound at hand ok =
     let task = permit_head (s.in_wave && not (holds t p)) NoTask _ ok in let size = permit_head (nat_lt (2 ^ 41) room) BadSize _ task.1 in
-    reload_write s p w room stage.Compacted false e c t r s.disk sound at hand refl refl refl refl (not_above room (2 ^ 41) size.0) task.0
+    reload_write s p w room stage.Compacted false e c t r s.disk sound at hand refl refl refl refl (λ v o. inl o) (not_above room (2 ^ 41) size.0) task.0
 reload_begin_sound s p w (mode.Write room) stage.Offloaded e c t None r None sound at hand ok =
     let task = permit_head (s.in_wave && not (holds t p)) NoTask _ ok in let out = permit_head (is_some s.disk) DiskOut _ task.1 in let size = permit_head (nat_lt (2 ^ 41) room) BadSize _ out.1 in
-    reload_write s p w room stage.Offloaded true e c t r (Some w) sound at hand refl refl refl (ap (λ b. 1 + one b) out.0) (not_above room (2 ^ 41) size.0) task.0
+    reload_write s p w room stage.Offloaded true e c t r (Some w) sound at hand refl refl refl (ap (λ b. 1 + one b) out.0) (taken s w p) (not_above room (2 ^ 41) size.0) task.0
 reload_begin_sound s p w (mode.Write room) _ e c t None r None sound at hand ok = let task = permit_head (s.in_wave && not (holds t p)) NoTask _ ok in false_ok task.1
 
 -- the end of a move: p stands at a stage where nobody moves it, and the disk comes home if it was out for it
 ended : (s : Core) (p w : ℕ) (st new : Stage) (e c : ℕ) (t wr r mv : Option ℕ) (pools : List (ℕ × Pool)) (disk : Option ℕ) → IsSound s → pool_at s.pools p ≡ Some (at_stage st e c) → slice_get s.hands w ≡ Some (hand_of t wr r mv) → mv ≡ Some p →
     Swapped p (at_stage st e c) (at_stage new e c) s.pools pools → IsFitStage new → under_part (at_stage new e c) ≡ under_part (at_stage st e c) →
-    read_pins new ≡ read_pins st → write_pins new ≡ write_pins st → movers st ≡ 1 → movers new ≡ 0 → moves_by_disk new ≡ false → one (is_some s.disk) ≡ one (moves_by_disk st) + one (is_some disk) →
+    read_pins new ≡ read_pins st → write_pins new ≡ write_pins st → movers st ≡ 1 → movers new ≡ 0 → moves_by_disk new ≡ false → one (is_some s.disk) ≡ one (moves_by_disk st) + one (is_some disk) → ((v : ℕ) → disk ≡ Some v → s.disk ≡ Some v) →
     IsSound (record s { pools = pools; hands = slice_set s.hands w (hand_of t wr r None); disk = disk })
-ended s p w st new e c t wr r mv pools disk sound at hand moved swap fits under reads writes m1 m0 off home =
+ended s p w st new e c t wr r mv pools disk sound at hand moved swap fits under reads writes m1 m0 off home was_out =
     let x = at_stage st e c in let y = at_stage new e c in let h = hand_of t wr r (Some p) in let g = hand_of t wr r None in
     let hand' : slice_get s.hands w ≡ Some h = hand ∙ ap (λ o. Some (hand_of t wr r o)) moved in
     change_at s p w x y h g pools disk sound at hand' swap
     (fit_at s.limit st new e c (sound.forms_fit p x at) fits) (let u = sound.under_fits in omega arith)
     (fits_same read_pins p x y r reads) (fits_same write_pins p x y wr writes) (fits_drop movers p x y (ap (λ n. n + 1) m0 ∙ sym m1))
-    (pins_none g pools refl) (λ m b e. absurd (no_mover new m b m0 e)) (let o : one (moves_by_disk new) ≡ 0 = ap one off in omega arith) refl (λ i. sound.own_task i w h hand')
+    (pins_none g pools refl) (λ m b e. absurd (no_mover new m b m0 e)) (let o : one (moves_by_disk new) ≡ 0 = ap one off in omega arith) (λ v o. inl (was_out v o)) refl (λ i. sound.own_task i w h hand')
   where
     no_mover : (new : Stage) (m : Mode) (b : Bool) → movers new ≡ 0 → new ≡ stage.Reloading m b → ⊥
     no_mover new m b z e = let k : movers new ≡ 1 = ap movers e in (omega arith)
@@ -279,17 +283,22 @@ home_after : (s : Core) (p : ℕ) (x : Pool) (b : Bool) → IsSound s → pool_a
 home_after s p x true sound at t = disk_out s p x sound at t
 home_after s p x false sound at t = sym (zero-add (one (is_some s.disk)))
 
+-- a disk that doesn't come home is out as it was
+still_out : (b : Bool) (o : Option ℕ) (v : ℕ) → (if b then None else o) ≡ Some v → o ≡ Some v
+still_out true o v e = cc
+still_out false o v e = e
+
 pub reload_end_sound : (s : Core) (p w : ℕ) (st : Stage) (e c : ℕ) (t wr r mv : Option ℕ) → IsSound s → pool_at s.pools p ≡ Some (at_stage st e c) → slice_get s.hands w ≡ Some (hand_of t wr r mv) →
     is_ok (permit (Rows.reload_end_row (at_stage st e c) (hand_of t wr r mv) p) (at_stage (Rows.reloaded st) e c)) ≡ true →
     IsSound (record s { pools = front p (at_stage (Rows.reloaded st) e c) s.pools; hands = slice_set s.hands w (hand_of t wr r None); disk = if moves_by_disk st then None else s.disk })
 reload_end_sound s p w (stage.Reloading mode.Read d) e c t wr r mv sound at hand ok =
     let part = permit_head (not (holds mv p && true)) NotHeld _ ok in let both = both_of (holds mv p) true part.0 in
     ended s p w (stage.Reloading mode.Read d) (stage.Read 1) e c t wr r mv _ _ sound at hand (holds_is mv p both.0)
-    (swapped_front p (at_stage (stage.Reloading mode.Read d) e c) (at_stage (stage.Read 1) e c) s.pools sound.one_pool at) (omega arith) refl refl refl refl refl refl (home_after s p (at_stage (stage.Reloading mode.Read d) e c) d sound at refl)
+    (swapped_front p (at_stage (stage.Reloading mode.Read d) e c) (at_stage (stage.Read 1) e c) s.pools sound.one_pool at) (omega arith) refl refl refl refl refl refl (home_after s p (at_stage (stage.Reloading mode.Read d) e c) d sound at refl) (still_out d s.disk)
 reload_end_sound s p w (stage.Reloading (mode.Write room) d) e c t wr r mv sound at hand ok =
     let part = permit_head (not (holds mv p && true)) NotHeld _ ok in let both = both_of (holds mv p) true part.0 in
     ended s p w (stage.Reloading (mode.Write room) d) (stage.Written room) e c t wr r mv _ _ sound at hand (holds_is mv p both.0)
-    (swapped_front p (at_stage (stage.Reloading (mode.Write room) d) e c) (at_stage (stage.Written room) e c) s.pools sound.one_pool at) (sound.forms_fit p (at_stage (stage.Reloading (mode.Write room) d) e c) at).stage_fits refl refl refl refl refl refl (home_after s p (at_stage (stage.Reloading (mode.Write room) d) e c) d sound at refl)
+    (swapped_front p (at_stage (stage.Reloading (mode.Write room) d) e c) (at_stage (stage.Written room) e c) s.pools sound.one_pool at) (sound.forms_fit p (at_stage (stage.Reloading (mode.Write room) d) e c) at).stage_fits refl refl refl refl refl refl (home_after s p (at_stage (stage.Reloading (mode.Write room) d) e c) d sound at refl) (still_out d s.disk)
 reload_end_sound s p w _ e c t wr r mv sound at hand ok = let part = permit_head (not (holds mv p && false)) NotHeld _ ok in let both = both_of (holds mv p) false part.0 in no_both both.1
 
 pub compact_end_sound : (s : Core) (p w : ℕ) (st : Stage) (e c : ℕ) (t wr r mv : Option ℕ) → IsSound s → pool_at s.pools p ≡ Some (at_stage st e c) → slice_get s.hands w ≡ Some (hand_of t wr r mv) →
@@ -298,7 +307,7 @@ pub compact_end_sound : (s : Core) (p w : ℕ) (st : Stage) (e c : ℕ) (t wr r 
 compact_end_sound s p w stage.Compacting e c t wr r mv sound at hand ok =
     let part = permit_head (not (holds mv p && true)) NotHeld _ ok in let both = both_of (holds mv p) true part.0 in
     ended s p w stage.Compacting stage.Compacted e c t wr r mv _ _ sound at hand (holds_is mv p both.0)
-    (swapped_in_place p (at_stage stage.Compacting e c) (at_stage stage.Compacted e c) s.pools sound.one_pool at) tt refl refl refl refl refl refl (sym (zero-add (one (is_some s.disk))))
+    (swapped_in_place p (at_stage stage.Compacting e c) (at_stage stage.Compacted e c) s.pools sound.one_pool at) tt refl refl refl refl refl refl (sym (zero-add (one (is_some s.disk)))) (λ v o. o)
 compact_end_sound s p w _ e c t wr r mv sound at hand ok = let part = permit_head (not (holds mv p && false)) NotHeld _ ok in let both = both_of (holds mv p) false part.0 in no_both both.1
 
 pub offload_end_sound : (s : Core) (p w : ℕ) (st : Stage) (e c : ℕ) (t wr r mv : Option ℕ) → IsSound s → pool_at s.pools p ≡ Some (at_stage st e c) → slice_get s.hands w ≡ Some (hand_of t wr r mv) →
@@ -307,7 +316,7 @@ pub offload_end_sound : (s : Core) (p w : ℕ) (st : Stage) (e c : ℕ) (t wr r 
 offload_end_sound s p w stage.Offloading e c t wr r mv sound at hand ok =
     let part = permit_head (not (holds mv p && true)) NotHeld _ ok in let both = both_of (holds mv p) true part.0 in
     ended s p w stage.Offloading stage.Offloaded e c t wr r mv _ _ sound at hand (holds_is mv p both.0)
-    (swapped_in_place p (at_stage stage.Offloading e c) (at_stage stage.Offloaded e c) s.pools sound.one_pool at) tt refl refl refl refl refl refl (disk_out s p (at_stage stage.Offloading e c) sound at refl)
+    (swapped_in_place p (at_stage stage.Offloading e c) (at_stage stage.Offloaded e c) s.pools sound.one_pool at) tt refl refl refl refl refl refl (disk_out s p (at_stage stage.Offloading e c) sound at refl) (λ v o. cc)
 offload_end_sound s p w _ e c t wr r mv sound at hand ok = let part = permit_head (not (holds mv p && false)) NotHeld _ ok in let both = both_of (holds mv p) false part.0 in no_both both.1
 
 -- the fit of a form
@@ -357,7 +366,7 @@ reader_leaves s p w n new e c t wr r m sound at hand held reads writes moves off
     (fit_at s.limit (stage.Read n) new e c (sound.forms_fit p x at) fits) (omega arith)
     (fits_drop read_pins p x y reads) (fits_same write_pins p x y wr writes) (fits_same movers p x y m moves)
     (pins_same s p w x y h g (front p y s.pools) sound hand' swap still refl (λ q d k. absurd (d (same_Some p q k))) (λ q d k. k)) (λ m d k. absurd (still m d k))
-    (ap (λ b. one b + one (is_some s.disk)) off) refl (λ i. sound.own_task i w h hand')
+    (ap (λ b. one b + one (is_some s.disk)) off) (λ v o. inl o) refl (λ i. sound.own_task i w h hand')
 
 pub unpin_read_sound : (s : Core) (p w : ℕ) (f : Form) (st : Stage) (e c : ℕ) (t wr r m : Option ℕ) → IsSound s → pool_at s.pools p ≡ Some (at_stage st e c) → slice_get s.hands w ≡ Some (hand_of t wr r m) →
     is_ok (permit (Rows.unpin_read_row s.limit (under_sum s.pools) (at_stage st e c) (hand_of t wr r m) p f) (at_stage (Rows.without_reader f st) e c)) ≡ true →
@@ -417,7 +426,7 @@ compact_begin_sound s p w wanted stage.Free e c t wr r None sound at hand ok =
     change_at s p w x y h g (in_place p y s.pools) s.disk sound at hand swap
     (fit_at s.limit stage.Free stage.Compacting e c fits tt) (let u = sound.under_fits in let f = fits.shorter in omega arith)
     (fits_same read_pins p x y r refl) (fits_same write_pins p x y wr refl) (fits_take movers p x y refl)
-    (pins_move p x y g s.pools (in_place p y s.pools) swap (λ m d k. let z : 0 ≡ 1 = ap moves_count k in omega arith) refl) (λ m d k. let z : 0 ≡ 1 = ap moves_count k in absurd (omega arith)) refl refl (λ i. sound.own_task i w h hand)
+    (pins_move p x y g s.pools (in_place p y s.pools) swap (λ m d k. let z : 0 ≡ 1 = ap moves_count k in omega arith) refl) (λ m d k. let z : 0 ≡ 1 = ap moves_count k in absurd (omega arith)) refl (λ v o. inl o) refl (λ i. sound.own_task i w h hand)
   where
     moves_count : Stage → ℕ
     moves_count (stage.Reloading m d) = 1
@@ -441,7 +450,7 @@ offload_begin_sound s p w wanted stage.Compacted e c t wr r None sound at hand o
     change_at s p w x y h g (in_place p y s.pools) (Some w) sound at hand swap
     (fit_at s.limit stage.Compacted stage.Offloading e c fits tt) (let u = sound.under_fits in omega arith)
     (fits_same read_pins p x y r refl) (fits_same write_pins p x y wr refl) (fits_take movers p x y refl)
-    (pins_move p x y g s.pools (in_place p y s.pools) swap (λ m d k. let z : 0 ≡ 1 = ap moves_count k in omega arith) refl) (λ m d k. let z : 0 ≡ 1 = ap moves_count k in absurd (omega arith)) (ap (λ b. 1 + one b) out.0) refl (λ i. sound.own_task i w h hand)
+    (pins_move p x y g s.pools (in_place p y s.pools) swap (λ m d k. let z : 0 ≡ 1 = ap moves_count k in omega arith) refl) (λ m d k. let z : 0 ≡ 1 = ap moves_count k in absurd (omega arith)) (ap (λ b. 1 + one b) out.0) (taken s w p) refl (λ i. sound.own_task i w h hand)
   where
     moves_count : Stage → ℕ
     moves_count (stage.Reloading m d) = 1
@@ -478,6 +487,7 @@ unpin_write_sound s p w f ne nc (stage.Written n) e c t wr r m sound at hand ok 
       pins = pins_same s p w x y h g (front p y s.pools) sound hand swap (λ m d k. free_still f m d k) moved (λ q d k. read ∙ k) (λ q d k. absurd (d (same_Some p q (sym held ∙ k))));
       fresh = λ m d k. free_still f m d k;
       disk = ap (λ b. one b + one (is_some s.disk)) (free_home f);
+      owner = λ v o. inl o;
       in_wave = refl;
       tasks = refl;
       kept = tasks;
@@ -529,6 +539,10 @@ insert_sound s p f e c sound ok =
       ]) refl;
       one_disk_move = (let a = sum_by-cons (λ v. one (moves_by_disk v.stage)) x (values_of s.pools) in let b = sound.one_disk_move in let h : one (moves_by_disk x.stage) ≡ 0 = ap one (free_home f) in
           let g : count_by (λ v. moves_by_disk v.stage) (x ∷ values_of s.pools) ≡ (if is_some s.disk then 1 else 0) = omega arith in g);
+      disk_owner = λ v o. let m = sound.disk_owner v o in
+          let away : p ≢ m.pid = λ e. (let k : None ≡ Some m.pool = sym none ∙ (ap (pool_at s.pools) e ∙ m.its_pool) in cc) in
+          let n : nat_eq p m.pid ≡ false = other_number p m.pid away in let k = found m.pid in let k' = rw n at k in
+          record { hand = m.hand; pid = m.pid; pool = m.pool; its_hand = m.its_hand; moves = m.moves; its_pool = k' ∙ m.its_pool; by_disk = m.by_disk };
       tasks_differ = sound.tasks_differ;
       tasks_present = λ t i. let was = sound.tasks_present t i in (elim (nat_eq p t) as (λ b. nat_eq p t ≡ b → IsSome (pool_at ((p, x) ∷ s.pools) t)) [
         | true ↦ λ e. let k = found t in let k' = rw e at k in rw k' refl

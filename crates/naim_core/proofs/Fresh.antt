@@ -149,6 +149,7 @@ fresh_sound limit n = record {
   one_mover = λ p. nobody_holds (λ h. h.moved) n p refl;
   pins_kept = λ w h at p x d m is. (let e : None ≡ Some p = sym (ap (λ k. k.moved) (all_are_empty n w h at)) ∙ m in cc);
   one_disk_move = refl;
+  disk_owner = λ w o. cc;
   tasks_differ = nothing_differs;
   tasks_present = λ t i. cc;
   tasks_kept = λ t. (let z = nobody_holds (λ h. h.task) n t refl in let g : 0 + 0 + hands_with (λ h. h.task) (replicate n empty_hand) t ≡ 0 = omega arith in g);

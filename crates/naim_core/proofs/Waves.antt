@@ -8,7 +8,7 @@ use Rattle.std.proofs.lemmas.List.Sums.{sum_by-cons}
 use Rattle.std.proofs.lemmas.Map.Keys.{IsDistinct-cons, IsDistinct-from_apart}
 use Rattle.std.proofs.lemmas.Option.{same_Some}
 use Rattle.naim_core.specs.Charges.{under_part, under_sum}
-use Rattle.naim_core.specs.Sound.{hands_with, wanted_by, read_pins, write_pins, movers, IsFitPool, KeepsPin, IsSound}
+use Rattle.naim_core.specs.Sound.{hands_with, wanted_by, read_pins, write_pins, movers, IsFitPool, KeepsPin, MovesByDisk, IsSound}
 use Rattle.naim_core.specs.State.{Core, pool_at, hand_at, holds, moves_by_disk, is_in, is_empty_hand, has_repeat, is_moving, is_pinned}
 use Rattle.naim_core.specs.declared.event.Mode.TheVariants as mode
 use Rattle.naim_core.specs.declared.pool.Pool.{Pool}
@@ -16,7 +16,7 @@ use Rattle.naim_core.specs.declared.pool.Stage.{Stage}
 use Rattle.naim_core.specs.declared.pool.Stage.TheVariants as stage
 use Rattle.naim_core.specs.declared.state.Hand.{Hand}
 use Rattle.naim_core.proofs.Maps.{same_number, number_itself, other_number, lookup_removed, distinct_removed, sum_removed, length_removed}
-use Rattle.naim_core.proofs.Keeps.{one, count_set, all_set}
+use Rattle.naim_core.proofs.Keeps.{one, count_set, all_set, set_same, set_other}
 
 -- a stage at which nobody holds the pool
 at_rest : (st : Stage) → is_moving st ≡ false → is_pinned st ≡ false → (read_pins st ≡ 0) × (write_pins st ≡ 0) × (movers st ≡ 0) × (moves_by_disk st ≡ false)
@@ -58,6 +58,11 @@ remove_sound s p x sound at still free idle =
       one_mover = λ q. same movers rest.2 q _ (sound.one_mover q);
       pins_kept = λ k h is q y d m here. sound.pins_kept k h is q y d m (was_there q y here);
       one_disk_move = (let a = sum_removed (λ v. one (moves_by_disk v.stage)) p x s.pools at in let b = sound.one_disk_move in let c : one (moves_by_disk x.stage) ≡ 0 = ap one rest.3 in omega arith);
+      disk_owner = λ v o. let m = sound.disk_owner v o in
+          let away : p ≢ m.pid = λ e. (let z : x ≡ m.pool = same_Some x m.pool (sym at ∙ (ap (pool_at s.pools) e ∙ m.its_pool)) in
+          let b : moves_by_disk x.stage ≡ true = ap (λ y. moves_by_disk y.stage) z ∙ m.by_disk in absurd (true≢false (sym b ∙ rest.3))) in
+          let n : nat_eq p m.pid ≡ false = other_number p m.pid away in let k = found m.pid in let k' = rw n at k in
+          record { hand = m.hand; pid = m.pid; pool = m.pool; its_hand = m.its_hand; moves = m.moves; its_pool = k' ∙ m.its_pool; by_disk = m.by_disk };
       tasks_differ = sound.tasks_differ;
       tasks_present = λ t i. absurd (true≢false (sym i ∙ no_length s.tasks (sound.no_tasks idle) t));
       tasks_kept = sound.tasks_kept;
@@ -68,6 +73,25 @@ remove_sound s p x sound at still free idle =
 -- the hands where only a task has changed
 same_hands : (place : Hand → Option ℕ) (hands : List Hand) (w : ℕ) (h g : Hand) → slice_get hands w ≡ Some h → place g ≡ place h → (q : ℕ) → hands_with place (slice_set hands w g) q ≡ hands_with place hands q
 same_hands place hands w h g at same q = let c = count_set (λ k. holds (place k) q) hands w h g at in let e : one (holds (place g) q) ≡ one (holds (place h) q) = ap (λ o. one (holds o q)) same in omega arith
+
+-- a hand that changes, but not in its move, leaves the moves by the disk as they are
+same_moves : (hands : List Hand) (pools : List (ℕ × Pool)) (w : ℕ) (h g : Hand) → slice_get hands w ≡ Some h → g.moved ≡ h.moved → (v : ℕ) → MovesByDisk hands pools v → MovesByDisk (slice_set hands w g) pools v
+same_moves hands pools w h g at same v m =
+    (elim (nat_eq w v) as (λ b. nat_eq w v ≡ b → MovesByDisk (slice_set hands w g) pools v) [
+      | true ↦ λ t. let wv = same_number w v t in
+          let mine : h ≡ m.hand = same_Some h m.hand (sym at ∙ (ap (slice_get hands) wv ∙ m.its_hand)) in
+          record {
+            hand = g;
+            pid = m.pid;
+            pool = m.pool;
+            its_hand = ap (slice_get (slice_set hands w g)) (sym wv) ∙ set_same hands w h g at;
+            moves = same ∙ (ap (λ k. k.moved) mine ∙ m.moves);
+            its_pool = m.its_pool;
+            by_disk = m.by_disk;
+          }
+      | false ↦ λ t. let away : w ≢ v = λ e. (let k : nat_eq w v ≡ true = ap (nat_eq w) (sym e) ∙ number_itself w in cc) in
+          record { hand = m.hand; pid = m.pid; pool = m.pool; its_hand = set_other hands w v g away ∙ m.its_hand; moves = m.moves; its_pool = m.its_pool; by_disk = m.by_disk }
+    ]) refl
 
 pub claim_sound : (s : Core) (w t : ℕ) (rest : List ℕ) (h : Hand) → IsSound s → slice_get s.hands w ≡ Some h → h.task ≡ None → s.unclaimed ≡ t ∷ rest →
     IsSound (record s { hands = slice_set s.hands w (record h { task = Some t }); unclaimed = rest })
@@ -81,6 +105,7 @@ claim_sound s w t rest h sound at none next = let g : Hand = record h { task = S
   one_mover = λ q. same_hands (λ k. k.moved) s.hands w h g at refl q ∙ sound.one_mover q;
   pins_kept = all_set (KeepsPin s.pools) s.hands w g (sound.pins_kept w h at) sound.pins_kept;
   one_disk_move = sound.one_disk_move;
+  disk_owner = λ v o. same_moves s.hands s.pools w h g at refl v (sound.disk_owner v o);
   tasks_differ = sound.tasks_differ;
   tasks_present = sound.tasks_present;
   tasks_kept = λ q. (let c = count_set (λ k. holds k.task q) s.hands w h g at in let a : one (holds h.task q) ≡ 0 = ap (λ o. one (holds o q)) none in
@@ -153,6 +178,7 @@ begin_wave_sound s ts sound present once idle = record {
   one_mover = sound.one_mover;
   pins_kept = sound.pins_kept;
   one_disk_move = sound.one_disk_move;
+  disk_owner = sound.disk_owner;
   tasks_differ = distinct_of ts once;
   tasks_present = all_present s ts present;
   tasks_kept = λ t. (let n = no_task_held s.hands idle t in let g : count_by (nat_eq t) ts + 0 + hands_with (λ h. h.task) s.hands t ≡ count_by (nat_eq t) ts = omega arith in g);
@@ -171,6 +197,7 @@ end_wave_sound s sound idle = record {
   one_mover = sound.one_mover;
   pins_kept = sound.pins_kept;
   one_disk_move = sound.one_disk_move;
+  disk_owner = sound.disk_owner;
   tasks_differ = distinct_of [] refl;
   tasks_present = λ t i. absurd (true≢false (sym i));
   tasks_kept = λ t. (let n = no_task_held s.hands idle t in let g : 0 + 0 + hands_with (λ h. h.task) s.hands t ≡ 0 = omega arith in g);

@@ -491,7 +491,8 @@ impl CoreState {
         requires limit { limit ≤ 2 ^ 30 }
         requires some_worker { 0 < workers }
         requires few_workers { workers ≤ 64 }
-        ensures { IfOk result (λ s. s ≡ start limit workers) }
+        ensures made { IfOk result (λ s. s ≡ start limit workers) }
+        ensures sound { IfOk result IsSound }
     {
         let pools = Table::new(alloc)?;
         let hands = vec![in alloc; EMPTY; workers as usize]?;

@@ -166,6 +166,7 @@ impl Disk for BentDisk {
             → ReadsPlaces (Some self.old.inner.bytes) (Some self.new.inner.bytes) false at result b.new }
 
         ensures whole { IfOk result (λ n. n ≡ length b.old) }
+        ensures nothing { OnErr result (b.new ≡ b.old) }
         ensures bends { IfOk result (λ n. GivesBent (Some self.old.inner.bytes) at n b.new
             (self.new.reads == self.old.read) self.old.bit) }
         ensures next { self.new.reads ≡ one_more self.old.reads }

@@ -18,3 +18,8 @@ invariant_of-result c =
       rw (hands, c.in_ok-pools.ensures, c.new-3.ensures.items, c.in_ok-done.ensures.items) (fresh_sound c.args.limit c.args.workers),
       rw (hands, c.in_ok-pools.ensures, c.new-3.ensures.items, c.in_ok-done.ensures.items) (fresh_kept c.args.limit c.args.workers (vec_capacity c.in_ok-done.done) c.requires.limit c.requires.some_worker c.requires.few_workers c.in_ok-done.ensures.capacity),
     )
+
+pub returns-clause-sound : goal.returns-clause-sound
+returns-clause-sound c =
+    let hands = c.in_ok-hands.ensures.items_if_clones_equal (λ y e. e) in
+    rw (hands, c.in_ok-pools.ensures, c.new-3.ensures.items, c.in_ok-done.ensures.items) (fresh_sound c.args.limit c.args.workers)
