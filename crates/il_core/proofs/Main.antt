@@ -19,7 +19,7 @@ pub row_passed : (name : List ℕ) (row : ShapeRow) (rows : List ShapeRow) → p
 row_passed name row rows e = ap (λ (b : Bool). if b then row.pid else pid_named name rows) e
 
 -- the one row of a name gives its PID
-once : (name : List ℕ) (rows : List ShapeRow) (k : ℕ) (row : ShapeRow) → HasEachNameOnce rows → k < length rows → get_or rows k row ≡ row
+pub once : (name : List ℕ) (rows : List ShapeRow) (k : ℕ) (row : ShapeRow) → HasEachNameOnce rows → k < length rows → get_or rows k row ≡ row
     → row.name ≡ name → pid_named name rows ≡ row.pid
 once name [] k row h lt is e = absurd (omega arith)
 once name (x ∷ xs) zero row h lt is e = row_taken name x xs ((bytes_eq-Decides x.name name).1 (ap (λ (r : ShapeRow). r.name) is ∙ e))
