@@ -8,13 +8,12 @@ use Rattle.il_core.specs.declared.instr.Instr.{Instr}
 use Rattle.il_core.specs.declared.instr.Instr.TheVariants.{Const, Move, Conv, Bin, Get, Set, GetX, SetX, GetA, SetA, Clear, Turn, Call, GetChar, PutChar}
 use Rattle.il_core.specs.declared.instr.End.{End}
 use Rattle.il_core.specs.declared.instr.End.TheVariants.{Jump, Branch, Loop, Return, Exit}
-use Rattle.il_core.specs.Limits.{IsInstr, IsBlock}
+use Rattle.il_core.specs.Limits.{IsBlock, IsInstr, max_elements, max_parameters, max_size}
 use Rattle.il_core.specs.Ranges.{AreWords}
 use Rattle.il_core.specs.Routine.{RoutineParts}
 use Rattle.il_core.specs.Size.{block_size, blocks_size, arguments, block_arguments, blocks_arguments, charge}
 use Rattle.compact_form.specs.Numbers.{forms, spelled, spelled_all}
 use Rattle.compact_form.specs.Compact.{number_of, instr_form, end_form, counted, block_form, flag, head_numbers, compact, IsRoutine}
-use Rattle.compact_form.specs.Reading.{max_size}
 use Rattle.compact_form.specs.Forms.{number_is_word, Fits, EndFits, BlockFits}
 use Rattle.compact_form.specs.Spellings.{spelled_short}
 use Rattle.compact_form.specs.Routines.{blocks_fit, few_blocks, flag_word, summed_words}
@@ -41,10 +40,10 @@ instr_short (SetA a i s) h = let x = all_short (a ∷ i ∷ s ∷ []) h.1 in ome
 instr_short (Clear r n a m) h = let x = all_short (r ∷ n ∷ a ∷ m ∷ []) h.1 in omega arith
 instr_short Turn h = omega arith
 instr_short (Call None f n args) h =
-    let few : length args ≤ 31 = h.0.1 in
+    let few : length args ≤ max_parameters = h.0.1 in
     let x = all_short (f ∷ n ∷ length args ∷ args) (h.1.0, (h.1.1.0, (omega arith, h.1.1.1))) in omega arith
 instr_short (Call (Some d) f n args) h =
-    let few : length args ≤ 31 = h.0.1 in
+    let few : length args ≤ max_parameters = h.0.1 in
     let x = all_short (d ∷ f ∷ n ∷ length args ∷ args) (h.1.0, (h.1.1.0, (h.1.1.1.0, (omega arith, h.1.1.1.1)))) in omega arith
 instr_short (GetChar d) h = let x = all_short (d ∷ []) h.1 in omega arith
 instr_short (PutChar d s) h = let x = all_short (d ∷ s ∷ []) h.1 in omega arith
@@ -82,15 +81,15 @@ blocks_short (b ∷ bs) h =
     let sums : blocks_arguments (b ∷ bs) ≡ block_arguments b + blocks_arguments bs = sum_by-cons block_arguments b bs in
     omega (arith, length-append (block_form b) (forms block_form bs))
 
--- a call has at most 31 arguments
-few_arguments : (is : List Instr) → AllByRecursion IsInstr is → sum_by arguments is ≤ 31 * length is
+-- a call has no more arguments than a routine may have parameters
+few_arguments : (is : List Instr) → AllByRecursion IsInstr is → sum_by arguments is ≤ max_parameters * length is
 few_arguments [] h = omega arith
 few_arguments (i ∷ is) h =
     let x = at i h.0 in
     let y = few_arguments is h.1 in
     let sums : sum_by arguments (i ∷ is) ≡ arguments i + sum_by arguments is = sum_by-cons arguments i is in omega arith
   where
-    at : (j : Instr) → IsInstr j → arguments j ≤ 31
+    at : (j : Instr) → IsInstr j → arguments j ≤ max_parameters
     at (Call dest f n args) g = g.1
     at (Const d w) g = omega arith
     at (Move d s) g = omega arith
@@ -107,7 +106,7 @@ few_arguments (i ∷ is) h =
     at (GetChar d) g = omega arith
     at (PutChar d s) g = omega arith
 
-few_in_blocks : (bs : List Block) → AllByRecursion IsBlock bs → blocks_arguments bs ≤ 31 * blocks_size bs
+few_in_blocks : (bs : List Block) → AllByRecursion IsBlock bs → blocks_arguments bs ≤ max_parameters * blocks_size bs
 few_in_blocks [] h = omega arith
 few_in_blocks (b ∷ bs) h =
     let x = few_arguments b.instrs h.0 in
@@ -120,7 +119,7 @@ pub bounded : (r : RoutineParts) → IsRoutine r → (1 ≤ length (compact r)) 
 bounded r h =
     let l = h.limits in
     let fit = blocks_fit r.blocks (blocks_size r.blocks) (omega arith) l.size l.instrs h.words.blocks in
-    let words = summed_words r.arrays (2 ^ 20) l.elements (omega arith) in
+    let words = summed_words r.arrays max_elements l.elements (omega arith) in
     let some = (spelled_short r.pid (omega (arith, l.pid))).0 in
     let head = all_short (head_numbers r) (omega (arith, l.pid), (omega (arith, l.params), (flag_word r.value, (omega (arith, l.regs), (h.words.entry, tt))))) in
     let count = (spelled_short (length r.arrays) (omega (arith, l.arrays))).1 in

@@ -13,7 +13,7 @@ use Rattle.il_core.specs.declared.instr.Instr.{Instr}
 use Rattle.il_core.specs.declared.instr.Instr.TheVariants.{Const, Move, Conv, Bin, Get, Set, GetX, SetX, GetA, SetA, Clear, Turn, Call, GetChar, PutChar}
 use Rattle.il_core.specs.declared.instr.End.{End}
 use Rattle.il_core.specs.declared.instr.End.TheVariants.{Jump, Branch, Loop, Return, Exit}
-use Rattle.il_core.specs.Limits.{IsInstr}
+use Rattle.il_core.specs.Limits.{IsInstr, max_parameters, max_pids, max_size}
 use Rattle.il_core.specs.Ranges.{AreWords, numbers_of, end_numbers}
 use Rattle.compact_form.specs.declared.opcode.Opcode.{Opcode}
 use Rattle.compact_form.specs.declared.opcode.Opcode.TheVariants as code
@@ -21,7 +21,7 @@ use Rattle.compact_form.specs.declared.opcode.EndCode.{EndCode}
 use Rattle.compact_form.specs.declared.opcode.EndCode.TheVariants as end_code
 use Rattle.compact_form.specs.Numbers.{spelled, spelled_all}
 use Rattle.compact_form.specs.Compact.{place_of, number_of, opcode, operands, instr_form, end_opcode, end_operands, end_form, counted, block_form}
-use Rattle.compact_form.specs.Reading.{Reply, goes, read_list, list_up_to, read_number, read_pair, read_triple, byte_of, end_byte_of, first_of_number, operators, operator_at, plain_codes, bin_code, opcode_at, end_codes, end_code_at, narrow_types, narrow_at, with_some, kept, is_pid, read_args, read_counted, read_call, read_operands, read_instr, read_end_operands, read_end, max_size, read_block}
+use Rattle.compact_form.specs.Reading.{Reply, goes, read_list, list_up_to, read_number, read_pair, read_triple, byte_of, end_byte_of, first_of_number, operators, operator_at, plain_codes, bin_code, opcode_at, end_codes, end_code_at, narrow_types, narrow_at, with_some, kept, is_pid, read_args, read_counted, read_call, read_operands, read_instr, read_end_operands, read_end, read_block}
 use Rattle.compact_form.specs.Lists.{same_reply, goes_back, kept_back, Reads, reads_number, list_complete, list_sound, reads_counted}
 
 -- ---- rows of numbers
@@ -221,11 +221,11 @@ from_tested p form ok reads test f k byte formed fitting bs i rest h =
     let t = tested_sound p form ok reads test f bs i rest h in
     subst (λ j. Operands k bs j rest) t.made (record { byte = byte t.value; split = t.split ∙ ap (λ l. l ++ rest) (formed t.value); fits = fitting t.value t.fits t.passes })
 
-pid_true : (n : ℕ) → is_pid n ≡ true → n < 2 ^ 17
-pid_true n h = ltb-true n (2 ^ 17) h
+pid_true : (n : ℕ) → is_pid n ≡ true → n < max_pids
+pid_true n h = ltb-true n max_pids h
 
-pid_there : (n : ℕ) → n < 2 ^ 17 → is_pid n ≡ true
-pid_there n h = lt-ltb n (2 ^ 17) h
+pid_there : (n : ℕ) → n < max_pids → is_pid n ≡ true
+pid_there n h = lt-ltb n max_pids h
 
 pub with_back : {A B : Type 0} (o : Option A) (go : A → Reply B) (z : B × List ℕ) → with_some o go ≡ Some z → (x : A) × (o ≡ Some x) × (go x ≡ Some z)
 with_back None go z h = absurd (cc)
@@ -283,12 +283,12 @@ call_last dest x args s = Some (Call dest x.0 x.1 args, s)
 call_row : (f n l : ℕ) (args rest : List ℕ) → three_form (f, n, l) ++ (spelled_all args ++ rest) ≡ spelled_all (f ∷ n ∷ l ∷ args) ++ rest
 call_row f n l args rest = simp append_assoc
 
-call_complete : (dest : Option ℕ) (f n : ℕ) (args rest : List ℕ) → f < 2 ^ 17 → n < 2 ^ 32 → AreWords args → length args ≤ 31 → read_call dest (spelled_all (f ∷ n ∷ length args ∷ args) ++ rest) ≡ Some (Call dest f n args, rest)
+call_complete : (dest : Option ℕ) (f n : ℕ) (args rest : List ℕ) → f < max_pids → n < 2 ^ 32 → AreWords args → length args ≤ max_parameters → read_call dest (spelled_all (f ∷ n ∷ length args ∷ args) ++ rest) ≡ Some (Call dest f n args, rest)
 call_complete dest f n args rest pid word words few =
     ap (read_call dest) (sym (call_row f n (length args) args rest))
     ∙ ap (λ r. goes r (λ x us. read_args dest x us)) (reads_triple.complete (f, n, length args) (spelled_all args ++ rest) (omega arith, word, omega arith))
-    ∙ ap (λ b. if b then goes (list_up_to read_number 31 (length args) (spelled_all args ++ rest)) (call_last dest (f, n, length args)) else None) (pid_there f pid)
-    ∙ ap (λ b. goes (if b then read_list read_number (length args) (spelled_all args ++ rest) else None) (call_last dest (f, n, length args))) (le-leb (length args) 31 few)
+    ∙ ap (λ b. if b then goes (list_up_to read_number max_parameters (length args) (spelled_all args ++ rest)) (call_last dest (f, n, length args)) else None) (pid_there f pid)
+    ∙ ap (λ b. goes (if b then read_list read_number (length args) (spelled_all args ++ rest) else None) (call_last dest (f, n, length args))) (le-leb (length args) max_parameters few)
     ∙ ap (λ r. goes r (call_last dest (f, n, length args))) (list_complete read_number spelled (λ m. m < 2 ^ 32) reads_number args rest words)
 
 record Called (dest : Option ℕ) (bs : List ℕ) (i : Instr) (rest : List ℕ) : Type 0 where
@@ -297,17 +297,17 @@ record Called (dest : Option ℕ) (bs : List ℕ) (i : Instr) (rest : List ℕ) 
   args : List ℕ
   made : Call dest callee count args ≡ i
   split : bs ≡ spelled_all (callee ∷ count ∷ length args ∷ args) ++ rest
-  pid : callee < 2 ^ 17
+  pid : callee < max_pids
   word : count < 2 ^ 32
-  few : length args ≤ 31
+  few : length args ≤ max_parameters
   words : AreWords args
 
 call_sound : (dest : Option ℕ) (bs : List ℕ) (i : Instr) (rest : List ℕ) → read_call dest bs ≡ Some (i, rest) → Called dest bs i rest
 call_sound dest bs i rest h =
     let a = goes_back (read_triple bs) (λ x us. read_args dest x us) (i, rest) h in
-    let b = kept_back (is_pid a.0.0) (goes (list_up_to read_number 31 a.0.2 a.1) (call_last dest a.0)) (i, rest) a.3 in
-    let c = goes_back (list_up_to read_number 31 a.0.2 a.1) (call_last dest a.0) (i, rest) b.1 in
-    let d = kept_back (nat_le a.0.2 31) (read_list read_number a.0.2 a.1) (c.0, c.1) c.2 in
+    let b = kept_back (is_pid a.0.0) (goes (list_up_to read_number max_parameters a.0.2 a.1) (call_last dest a.0)) (i, rest) a.3 in
+    let c = goes_back (list_up_to read_number max_parameters a.0.2 a.1) (call_last dest a.0) (i, rest) b.1 in
+    let d = kept_back (nat_le a.0.2 max_parameters) (read_list read_number a.0.2 a.1) (c.0, c.1) c.2 in
     let l = list_sound read_number spelled (λ m. m < 2 ^ 32) reads_number a.0.2 a.1 c.0 c.1 d.1 in
     let s = reads_triple.sound bs a.0 a.1 a.2 in
     let same = same_reply (Call dest a.0.0 a.0.1 c.0) i c.1 rest c.3 in
@@ -319,7 +319,7 @@ call_sound dest bs i rest h =
       split = s.0 ∙ ap (λ us. three_form a.0 ++ us) (l.split ∙ ap (λ us. spelled_all c.0 ++ us) same.1) ∙ call_row a.0.0 a.0.1 a.0.2 c.0 rest ∙ ap (λ m. spelled_all (a.0.0 ∷ a.0.1 ∷ m ∷ c.0) ++ rest) (sym l.count);
       pid = pid_true a.0.0 b.0;
       word = s.1.1;
-      few = omega (arith, l.count, leb-true a.0.2 31 d.0);
+      few = omega (arith, l.count, leb-true a.0.2 max_parameters d.0);
       words = l.all;
     }
 

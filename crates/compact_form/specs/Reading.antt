@@ -4,6 +4,7 @@ use Rattle.hlo_num.specs.declared.word.Op.{Op}
 use Rattle.hlo_num.specs.declared.word.Op.TheVariants.{AddS, AddU, SubS, SubU, MulS, MulU, DivS, DivU, RemS, RemU, And, Or, Xor, Shl, ShrS, ShrU, Eq, Ne, LtS, LtU, LeS, LeU}
 use Rattle.hlo_num.specs.declared.word.Ty.{Ty}
 use Rattle.hlo_num.specs.declared.word.Ty.TheVariants.{Char, UChar, Short, UShort}
+use Rattle.il_core.specs.Limits.{max_arrays, max_elements, max_parameters, max_pids, max_registers, max_size}
 use Rattle.il_core.specs.declared.instr.Block.{Block}
 use Rattle.il_core.specs.declared.instr.Instr.{Instr}
 use Rattle.il_core.specs.declared.instr.Instr.TheVariants.{Const, Move, Conv, Bin, Get, Set, GetX, SetX, GetA, SetA, Clear, Turn, Call, GetChar, PutChar}
@@ -131,11 +132,11 @@ abbrev pub kept : {A : Type 0} → Bool → A → List ℕ → Reply A
 kept test x rest = if test then Some (x, rest) else None
 
 abbrev pub is_pid : ℕ → Bool
-is_pid n = nat_lt n (2 ^ 17)
+is_pid n = nat_lt n max_pids
 
 abbrev pub read_args : Option ℕ → ℕ × ℕ × ℕ → List ℕ → Reply Instr
 read_args dest x rest =
-    if is_pid x.0 then goes (list_up_to read_number 31 x.2 rest) (λ args s. Some (Call dest x.0 x.1 args, s)) else None
+    if is_pid x.0 then goes (list_up_to read_number max_parameters x.2 rest) (λ args s. Some (Call dest x.0 x.1 args, s)) else None
 
 abbrev pub read_call : Option ℕ → List ℕ → Reply Instr
 read_call dest bs = goes (read_triple bs) (λ x rest. read_args dest x rest)
@@ -176,9 +177,6 @@ read_end (b ∷ bs) = with_some (end_code_at b) (λ k. read_end_operands k bs)
 
 -- ---- blocks and routines
 
-abbrev pub max_size : ℕ
-max_size = 2 ^ 16
-
 abbrev pub read_block : List ℕ → Reply Block
 read_block bs = goes (read_counted read_instr max_size bs) (λ is r. goes (read_end r) (λ e s. Some (record { instrs = is; end = e }, s)))
 
@@ -187,11 +185,11 @@ flag_at n = if n == 0 then Some false else (if n == 1 then Some true else None)
 
 -- the limits of the language that a routine's own numbers keep
 abbrev pub is_within : RoutineParts → Bool
-is_within r = (is_pid r.pid && nat_le r.params 31) && (nat_le r.regs (2 ^ 15) && (nat_le (sum r.arrays) (2 ^ 20) && nat_le (size r) max_size))
+is_within r = (is_pid r.pid && nat_le r.params max_parameters) && (nat_le r.regs max_registers && (nat_le (sum r.arrays) max_elements && nat_le (size r) max_size))
 
 abbrev pub read_lists : ℕ × ℕ × ℕ → ℕ × ℕ → Bool → List ℕ → Reply RoutineParts
 read_lists x y value bs =
-    goes (read_counted read_number (2 ^ 12) bs) (λ arrays r. goes (read_counted read_block max_size r) (λ blocks s.
+    goes (read_counted read_number max_arrays bs) (λ arrays r. goes (read_counted read_block max_size r) (λ blocks s.
     let parts : RoutineParts = record { pid = x.0; params = x.1; value = value; regs = y.0; entry = y.1; arrays = arrays; blocks = blocks } in
     kept (is_within parts) parts s))
 

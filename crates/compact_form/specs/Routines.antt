@@ -6,13 +6,13 @@ use Rattle.std.proofs.lemmas.Bool.{lt-ltb, ltb-true, le-leb, leb-true, eqb-true}
 use Rattle.std.proofs.lemmas.List.Sums.{sum_by-cons}
 use Rattle.il_core.specs.declared.instr.Block.{Block}
 use Rattle.il_core.specs.declared.instr.Instr.{Instr}
-use Rattle.il_core.specs.Limits.{IsInstr, IsBlock, IsWithinLimits}
+use Rattle.il_core.specs.Limits.{IsBlock, IsInstr, IsWithinLimits, max_arrays, max_elements, max_parameters, max_pids, max_registers, max_size}
 use Rattle.il_core.specs.Ranges.{AreWords, numbers_of, IsBlockOfWords}
 use Rattle.il_core.specs.Routine.{RoutineParts}
 use Rattle.il_core.specs.Size.{block_size, blocks_size, size}
 use Rattle.compact_form.specs.Numbers.{spelled, spelled_all}
 use Rattle.compact_form.specs.Compact.{counted, block_form, flag, compact, IsRoutine}
-use Rattle.compact_form.specs.Reading.{Reply, goes, read_number, read_pair, read_triple, read_counted, with_some, kept, is_pid, max_size, read_block, flag_at, is_within, read_lists, read_routine}
+use Rattle.compact_form.specs.Reading.{Reply, goes, read_number, read_pair, read_triple, read_counted, with_some, kept, is_pid, read_block, flag_at, is_within, read_lists, read_routine}
 use Rattle.compact_form.specs.Lists.{same_reply, goes_back, kept_back, Reads, reads_number, reads_counted}
 use Rattle.compact_form.specs.Forms.{two_form, three_form, reads_pair, reads_triple, with_back, Fits, BlockFits, reads_block}
 
@@ -68,21 +68,21 @@ both_back false q h = absurd (cc)
 
 within_true : (r : RoutineParts) → IsWithinLimits r → is_within r ≡ true
 within_true r h =
-    both _ _ (both _ _ (lt-ltb r.pid (2 ^ 17) h.pid) (le-leb r.params 31 h.params))
-    (both _ _ (le-leb r.regs (2 ^ 15) h.regs) (both _ _ (le-leb (sum r.arrays) (2 ^ 20) h.elements) (le-leb (size r) max_size h.size)))
+    both _ _ (both _ _ (lt-ltb r.pid max_pids h.pid) (le-leb r.params max_parameters h.params))
+    (both _ _ (le-leb r.regs max_registers h.regs) (both _ _ (le-leb (sum r.arrays) max_elements h.elements) (le-leb (size r) max_size h.size)))
 
-within_limits : (r : RoutineParts) → is_within r ≡ true → length r.arrays ≤ 2 ^ 12 → AllByRecursion IsBlock r.blocks → IsWithinLimits r
+within_limits : (r : RoutineParts) → is_within r ≡ true → length r.arrays ≤ max_arrays → AllByRecursion IsBlock r.blocks → IsWithinLimits r
 within_limits r h few blocks =
-    let a = both_back (is_pid r.pid && nat_le r.params 31) (nat_le r.regs (2 ^ 15) && (nat_le (sum r.arrays) (2 ^ 20) && nat_le (size r) max_size)) h in
-    let b = both_back (is_pid r.pid) (nat_le r.params 31) a.0 in
-    let c = both_back (nat_le r.regs (2 ^ 15)) (nat_le (sum r.arrays) (2 ^ 20) && nat_le (size r) max_size) a.1 in
-    let d = both_back (nat_le (sum r.arrays) (2 ^ 20)) (nat_le (size r) max_size) c.1 in
+    let a = both_back (is_pid r.pid && nat_le r.params max_parameters) (nat_le r.regs max_registers && (nat_le (sum r.arrays) max_elements && nat_le (size r) max_size)) h in
+    let b = both_back (is_pid r.pid) (nat_le r.params max_parameters) a.0 in
+    let c = both_back (nat_le r.regs max_registers) (nat_le (sum r.arrays) max_elements && nat_le (size r) max_size) a.1 in
+    let d = both_back (nat_le (sum r.arrays) max_elements) (nat_le (size r) max_size) c.1 in
     record {
-      pid = ltb-true r.pid (2 ^ 17) b.0;
-      params = leb-true r.params 31 b.1;
-      regs = leb-true r.regs (2 ^ 15) c.0;
+      pid = ltb-true r.pid max_pids b.0;
+      params = leb-true r.params max_parameters b.1;
+      regs = leb-true r.regs max_registers c.0;
       arrays = few;
-      elements = leb-true (sum r.arrays) (2 ^ 20) d.0;
+      elements = leb-true (sum r.arrays) max_elements d.0;
       size = leb-true (size r) max_size d.1;
       instrs = blocks;
     }
@@ -120,8 +120,8 @@ pair_go x y s = with_some (flag_at x.2) (λ value. read_lists x y value s)
 abbrev triple_go : ℕ × ℕ × ℕ → List ℕ → Reply RoutineParts
 triple_go x r = goes (read_pair r) (λ y s. pair_go x y s)
 
-reads_arrays : Reads (read_counted read_number (2 ^ 12)) (counted spelled) (λ ns. AreWords ns × (length ns ≤ 2 ^ 12))
-reads_arrays = reads_counted read_number spelled (λ n. n < 2 ^ 32) reads_number (2 ^ 12) (omega arith)
+reads_arrays : Reads (read_counted read_number max_arrays) (counted spelled) (λ ns. AreWords ns × (length ns ≤ max_arrays))
+reads_arrays = reads_counted read_number spelled (λ n. n < 2 ^ 32) reads_number max_arrays (omega arith)
 
 reads_blocks : Reads (read_counted read_block max_size) (counted block_form) (λ bs. AllByRecursion BlockFits bs × (length bs ≤ max_size))
 reads_blocks = reads_counted read_block block_form BlockFits reads_block max_size (omega arith)
@@ -138,7 +138,7 @@ lists_complete r rest h =
     let fit = blocks_fit r.blocks (size r) (omega arith) l.size l.instrs w.blocks in
     let count = few_blocks r.blocks in
     ap (λ bs. read_lists x y r.value bs) (append_assoc (counted spelled r.arrays) (counted block_form r.blocks) rest)
-    ∙ ap (λ z. goes z (arrays_go x y r.value)) (reads_arrays.complete r.arrays (counted block_form r.blocks ++ rest) (summed_words r.arrays (2 ^ 20) l.elements (omega arith), l.arrays))
+    ∙ ap (λ z. goes z (arrays_go x y r.value)) (reads_arrays.complete r.arrays (counted block_form r.blocks ++ rest) (summed_words r.arrays max_elements l.elements (omega arith), l.arrays))
     ∙ ap (λ z. goes z (blocks_go x y r.value r.arrays)) (reads_blocks.complete r.blocks rest (fit, omega arith))
     ∙ ap (λ b. kept b r rest) (within_true r l)
 
@@ -159,7 +159,7 @@ routine_sound bs r rest h =
     let a = goes_back (read_triple bs) triple_go (r, rest) h in
     let b = goes_back (read_pair a.1) (pair_go a.0) (r, rest) a.3 in
     let v = with_back (flag_at a.0.2) (λ value. read_lists a.0 b.0 value b.1) (r, rest) b.3 in
-    let c = goes_back (read_counted read_number (2 ^ 12) b.1) (arrays_go a.0 b.0 v.0) (r, rest) v.2 in
+    let c = goes_back (read_counted read_number max_arrays b.1) (arrays_go a.0 b.0 v.0) (r, rest) v.2 in
     let d = goes_back (read_counted read_block max_size c.1) (blocks_go a.0 b.0 v.0 c.0) (r, rest) c.3 in
     let parts = parts_of a.0 b.0 v.0 c.0 d.0 in
     let k = kept_back (is_within parts) (Some (parts, d.1)) (r, rest) d.3 in

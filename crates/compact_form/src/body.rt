@@ -1,8 +1,9 @@
 //! A routine as a body that lies in a pool.
 ghost use Rattle.std.specs.Prelude.{◌≡◌, IfOk, IfErr, Err, None, Some, sum, nat_le, ◌≤◌, ◌^◌, length};
+ghost use Rattle.il_core.specs.Limits.{max_arrays, max_elements, max_size};
 ghost use Rattle.il_core.specs.Size.{blocks_size};
 ghost use Rattle.compact_form.specs.declared.fault.Fault.TheVariants.{Unreadable};
-ghost use Rattle.compact_form.specs.Reading.{flag_at, max_size, read_routine};
+ghost use Rattle.compact_form.specs.Reading.{flag_at, read_routine};
 
 use crate::cursor::Cursor;
 use crate::fault::Fault;
@@ -10,7 +11,7 @@ use crate::lengths::routine_len;
 use crate::ranges::tell;
 use crate::writing::put_routine;
 use hlo_num::Seq;
-use il_core::{Block, Routine};
+use il_core::{Block, Routine, limits};
 use pool_laws::Poolable;
 use std::alloc::{AllocError, Global};
 
@@ -76,9 +77,6 @@ impl Poolable for RoutineBody {
     ghost bounds = { λ x h. within_charge x.routine h };
 }
 
-/// The greatest number of local arrays of a routine.
-const MAX_ARRAYS: u32 = 1 << 12;
-
 /// Whether a routine gives a value, by number.
 fn checked_flag(number: u32) -> Result<bool, Fault>
     ensures found { IfOk result (λ b. flag_at number ≡ Some b) }
@@ -93,21 +91,21 @@ fn checked_flag(number: u32) -> Result<bool, Fault>
 
 /// Whether the arrays have at most so many elements.
 fn has_few_elements(arrays: &[u32]) -> bool
-    requires { length arrays.now ≤ 2 ^ 12 }
-    ensures { result ≡ nat_le (sum arrays.now) (2 ^ 20) }
+    requires { length arrays.now ≤ max_arrays }
+    ensures { result ≡ nat_le (sum arrays.now) max_elements }
 {
     let mut elements: u64 = 0;
     for length in arrays {
         elements += u64::from(*length);
     }
-    elements <= 1 << 20
+    elements <= u64::from(limits::ELEMENTS)
 }
 
 /// Whether the blocks have at most so many instructions and ends.
 fn has_size(blocks: &[Block]) -> bool
     ensures { result ≡ nat_le (blocks_size blocks.now) max_size }
 {
-    let mut left: usize = 1 << 16;
+    let mut left = limits::SIZE as usize;
     for block in blocks {
         let instrs = block.instrs.len();
         if instrs >= left {
@@ -128,10 +126,10 @@ impl Cursor<'_> {
         let (regs, entry) = self.pair()?;
         let value = checked_flag(number)?;
         let length = self.number()?;
-        let arrays = self.numbers(alloc, length, MAX_ARRAYS)?;
+        let arrays = self.numbers(alloc, length, limits::ARRAYS)?;
         let count = self.number()?;
         let blocks = self.blocks(alloc, count)?;
-        if pid >= 1 << 17 || params > 31 || regs > 1 << 15 {
+        if pid >= limits::PIDS || params > limits::PARAMETERS || regs > limits::REGISTERS {
             return Err(Fault::Unreadable);
         }
         if !has_few_elements(arrays.as_slice()) || !has_size(blocks.as_slice()) {

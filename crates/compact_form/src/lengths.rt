@@ -1,7 +1,7 @@
 //! How many bytes compact forms have.
 ghost use Rattle.std.specs.Prelude.{◌≡◌, ◌+◌, ◌*◌, ◌^◌, ◌<◌, ◌≤◌, take as first, length, flat_map};
 ghost use Rattle.std.specs.List.{AllByRecursion};
-ghost use Rattle.il_core.specs.Limits.{IsBlock, IsInstr};
+ghost use Rattle.il_core.specs.Limits.{IsBlock, IsInstr, max_arrays, max_parameters, max_size};
 ghost use Rattle.il_core.specs.Size.{blocks_size};
 ghost use Rattle.compact_form.specs.Compact.{block_form, compact, instr_form};
 ghost use Rattle.compact_form.specs.Numbers.{spelled};
@@ -18,7 +18,7 @@ fn number_len(n: u32) -> u32
 }
 
 fn numbers_len(numbers: &[u32]) -> u32
-    requires { length numbers.now ≤ 2 ^ 12 }
+    requires { length numbers.now ≤ max_arrays }
     ensures len { result ≡ length (flat_map spelled numbers.now) }
     ensures bound { result ≤ 5 * length numbers.now }
 {
@@ -31,7 +31,7 @@ fn numbers_len(numbers: &[u32]) -> u32
 
 fn row_len(row: &Row<'_>) -> u32
     requires count { row.now.count ≤ 4 }
-    requires args { length row.now.args.now ≤ 31 }
+    requires args { length row.now.args.now ≤ max_parameters }
     ensures len { result ≡ 1 + length (flat_map spelled (first row.now.count row.now.numbers)) + length (flat_map spelled row.now.args.now) }
     ensures bound { result ≤ 176 }
 {
@@ -49,7 +49,7 @@ fn instr_len(instr: &Instr) -> u32
 
 fn instrs_len(instrs: &[Instr]) -> u32
     requires limits { AllByRecursion IsInstr instrs.now }
-    requires few { length instrs.now ≤ 2 ^ 16 }
+    requires few { length instrs.now ≤ max_size }
     ensures len { result ≡ length (flat_map instr_form instrs.now) }
     ensures bound { result ≤ 176 * length instrs.now }
 {
@@ -62,7 +62,7 @@ fn instrs_len(instrs: &[Instr]) -> u32
 
 fn block_len(block: &Block) -> u32
     requires limits { IsBlock block.now }
-    requires few { length block.now.instrs ≤ 2 ^ 16 }
+    requires few { length block.now.instrs ≤ max_size }
     ensures len { result ≡ length (block_form block.now) }
     ensures bound { result ≤ 200 * (length block.now.instrs + 1) }
 {
@@ -73,7 +73,7 @@ fn block_len(block: &Block) -> u32
 
 fn blocks_len(blocks: &[Block]) -> u32
     requires limits { AllByRecursion IsBlock blocks.now }
-    requires size { blocks_size blocks.now ≤ 2 ^ 16 }
+    requires size { blocks_size blocks.now ≤ max_size }
     ensures len { result ≡ length (flat_map block_form blocks.now) }
     ensures bound { result ≤ 200 * blocks_size blocks.now }
 {

@@ -1,27 +1,22 @@
 //! Reading routines, from bytes that may be anything.
 ghost use Rattle.std.specs.Prelude.{◌≡◌, IfOk, IfErr, Err, None, Some, true, false};
+ghost use Rattle.il_core.specs.Limits.{max_size};
 ghost use Rattle.compact_form.specs.declared.fault.Fault.TheVariants.{Unreadable};
-ghost use Rattle.compact_form.specs.Reading.{is_pid, list_up_to, max_size, read_block, read_call, read_end, read_end_operands, read_instr, read_operands};
+ghost use Rattle.compact_form.specs.Reading.{is_pid, list_up_to, read_block, read_call, read_end, read_end_operands, read_instr, read_operands};
 
 use crate::cursor::Cursor;
 use crate::fault::Fault;
 use crate::opcode::{EndCode, Opcode, end_code_of, narrow_type, opcode_of};
 use hlo_num::{Seq, Word};
-use il_core::{Block, End, Instr};
+use il_core::{Block, End, Instr, limits};
 use std::alloc::Global;
 
-/// The greatest number of arguments of a call.
-const MAX_ARGUMENTS: u32 = 31;
-
-/// The greatest number of instructions of a block, and of blocks.
-const MAX_SIZE: u32 = 1 << 16;
-
-/// A PID, where it is below 131,072.
+/// A PID, where it is in its range.
 fn checked_pid(pid: u32) -> Result<u32, Fault>
     ensures found { IfOk result (λ p. (p ≡ pid) × (is_pid pid ≡ true)) }
     ensures none { IfErr result (λ e. (e ≡ Unreadable) × (is_pid pid ≡ false)) }
 {
-    if pid < 1 << 17 {
+    if pid < limits::PIDS {
         Ok(pid)
     } else {
         Err(Fault::Unreadable)
@@ -116,7 +111,7 @@ impl Cursor<'_> {
     {
         let (pid, count, length) = self.triple()?;
         let callee = checked_pid(pid)?;
-        let args = self.numbers(alloc, length, MAX_ARGUMENTS)?;
+        let args = self.numbers(alloc, length, limits::PARAMETERS)?;
         Ok(Instr::Call {
             dest,
             callee,
@@ -160,7 +155,7 @@ impl Cursor<'_> {
         ensures found { IfOk result (λ v. list_up_to read_instr max_size count self.old.rest.now ≡ Some (v.items, self.new.rest.now)) }
         ensures none { result ≡ Err Unreadable → list_up_to read_instr max_size count self.old.rest.now ≡ None }
     {
-        if count > MAX_SIZE {
+        if count > limits::SIZE {
             return Err(Fault::Unreadable);
         }
         let mut instrs = Vec::with_capacity(alloc, self.rest.len().min(count as usize))?;
@@ -189,7 +184,7 @@ impl Cursor<'_> {
         ensures found { IfOk result (λ v. list_up_to read_block max_size count self.old.rest.now ≡ Some (v.items, self.new.rest.now)) }
         ensures none { result ≡ Err Unreadable → list_up_to read_block max_size count self.old.rest.now ≡ None }
     {
-        if count > MAX_SIZE {
+        if count > limits::SIZE {
             return Err(Fault::Unreadable);
         }
         let mut blocks = Vec::with_capacity(alloc, self.rest.len().min(count as usize))?;

@@ -1,7 +1,7 @@
 //! Instructions and ends as rows of the compact form: an opcode's byte and numbers.
 ghost use Rattle.std.specs.Prelude.{◌≡◌, ◌++◌, ◌<◌, ◌≤◌, ◌^◌, [], take as first, length};
 ghost use Rattle.il_core.specs.declared.instr.Instr.TheVariants.{Call};
-ghost use Rattle.il_core.specs.Limits.{IsInstr};
+ghost use Rattle.il_core.specs.Limits.{IsInstr, max_parameters};
 ghost use Rattle.il_core.specs.Ranges.{AreWords, end_numbers, numbers_of};
 ghost use Rattle.compact_form.specs.Compact.{end_opcode, end_operands, flag, head_numbers, number_of as narrow_number, opcode, operands, place_of as operator_place};
 
@@ -40,7 +40,7 @@ impl<'a> Row<'a> {
         ensures opcode { result.opcode ≡ opcode instr.now }
         ensures operands { first result.count result.numbers ++ result.args.now ≡ operands instr.now }
         ensures count { result.count ≤ 4 }
-        ensures args { length result.args.now ≤ 31 }
+        ensures args { length result.args.now ≤ max_parameters }
         ensures words { AreWords (numbers_of instr.now) }
     {
         match instr {
@@ -69,7 +69,7 @@ impl<'a> Row<'a> {
 
     /// The row of a call.
     fn of_call(dest: Option<u32>, callee: u32, count: u32, args: &'a [u32]) -> Row<'a>
-        requires { length args.now ≤ 31 }
+        requires { length args.now ≤ max_parameters }
         ensures opcode { result.opcode ≡ opcode (Call dest callee count args.now) }
         ensures operands { first result.count result.numbers ++ result.args.now ≡ operands (Call dest callee count args.now) }
         ensures count { result.count ≤ 4 }

@@ -1,10 +1,9 @@
 //! Writing routines.
 ghost use Rattle.std.specs.Prelude.{◌≡◌, ◌∷◌, ◌++◌, ◌^◌, ◌≤◌, take as first, length, flat_map, OnOk};
 ghost use Rattle.std.specs.List.{AllByRecursion};
-ghost use Rattle.il_core.specs.Limits.{IsBlock, IsInstr};
+ghost use Rattle.il_core.specs.Limits.{IsBlock, IsInstr, max_size};
 ghost use Rattle.compact_form.specs.Compact.{block_form, compact, counted, instr_form};
 ghost use Rattle.compact_form.specs.Numbers.{spelled};
-ghost use Rattle.compact_form.specs.Reading.{max_size};
 
 use crate::row::{Row, head_of};
 use il_core::{Block, Instr, Routine};

@@ -17,15 +17,8 @@ use Rattle.il_core.specs.Program.{shape_at}
 use Rattle.il_core.specs.Valid.{IsObjectShape, IsRoutineShape, is_wanted, IsRegIfSome, IsValidInstr, IsValidEnd, AreValidBlocks, IsValid}
 use Rattle.il_check.specs.declared.flaw.Flaw.{Flaw}
 use Rattle.il_check.specs.declared.flaw.Flaw.TheVariants.{Params, Register, Array, Object, Callee, Arguments, Result, Target, ReturnKind}
-use Rattle.il_check.specs.Conditions.{first_broken, exist, is_object, is_routine, params_of, gives_value, callee_conditions, instr_conditions, end_conditions, is_later, blocks_conditions, conditions}
+use Rattle.il_check.specs.Conditions.{first_broken, exist, is_object, is_routine, params_of, gives_value, callee_conditions, object_conditions, named_conditions, registers_exist, instr_conditions, end_conditions, is_later, blocks_conditions, conditions}
 use Rattle.il_check.proofs.MetConditions.{front_met, rest_met, both_met, head_met, cons_met, one_met, two_met, one_meets, two_meet}
-
--- two registers, three registers
-two_less : (a b n : ℕ) → (nat_lt a n && nat_lt b n) ≡ true → (a < n) × (b < n)
-two_less a b n h = let r = and_parts (nat_lt a n) (nat_lt b n) h in (ltb-true a n r.0, ltb-true b n r.1)
-
-less_two : (a b n : ℕ) → a < n → b < n → (nat_lt a n && nat_lt b n) ≡ true
-less_two a b n h k = and_from (nat_lt a n) (nat_lt b n) (lt-ltb a n h) (lt-ltb b n k)
 
 object_shape : (s : Option Shape) → is_object s ≡ true → IsObjectShape s
 object_shape None h = absurd cc
@@ -94,50 +87,80 @@ valid_callee s count dest h =
     cons_met (is_routine s) Callee ((nat_eq (params_of s) count, Arguments) ∷ (beq (gives_value s) (is_some dest), Result) ∷ []) r.0
     (two_meet (nat_eq (params_of s) count) (beq (gives_value s) (is_some dest)) Arguments Result (eq-eqb (params_of s) count r.1) (bool_same (gives_value s) (is_some dest) (r.2 ∙ sym (wanted_some dest))))
 
-call_valid : (rows : List ShapeRow) (regs : ℕ) (arrays : ℕ) (dest : Option ℕ) (p count : ℕ) (args : List ℕ) → Ok rows regs arrays (Call dest p count args) → IsValidInstr rows regs arrays (Call dest p count args)
-call_valid rows regs arrays dest p count args h =
-    let a = head_met (exist regs (option_to_list dest) && exist regs args) Register (callee_conditions (shape_at rows p) (length args) (is_some dest)) h in
-    let r = and_parts (exist regs (option_to_list dest)) (exist regs args) a.0 in
-    (dest_less regs dest r.0, all_less regs args r.1, callee_valid (shape_at rows p) (length args) dest a.1)
+-- registers that are named exist
+in_range : (regs : ℕ) (d : Option ℕ) (xs : List ℕ) → (exist regs (option_to_list d) && exist regs xs) ≡ true
+    → IsRegIfSome regs d × AllByRecursion (λ x. x < regs) xs
+in_range regs d xs h =
+    let r = and_parts (exist regs (option_to_list d)) (exist regs xs) h in
+    (dest_less regs d r.0, all_less regs xs r.1)
 
-valid_call : (rows : List ShapeRow) (regs : ℕ) (arrays : ℕ) (dest : Option ℕ) (p count : ℕ) (args : List ℕ) → IsValidInstr rows regs arrays (Call dest p count args) → Ok rows regs arrays (Call dest p count args)
-valid_call rows regs arrays dest p count args h =
-    cons_met (exist regs (option_to_list dest) && exist regs args) Register (callee_conditions (shape_at rows p) (length args) (is_some dest)) (and_from (exist regs (option_to_list dest)) (exist regs args) (less_dest regs dest h.0) (less_all regs args h.1))
-    (valid_callee (shape_at rows p) (length args) dest h.2)
+range_in : (regs : ℕ) (d : Option ℕ) (xs : List ℕ) → IsRegIfSome regs d → AllByRecursion (λ x. x < regs) xs
+    → (exist regs (option_to_list d) && exist regs xs) ≡ true
+range_in regs d xs h k = and_from (exist regs (option_to_list d)) (exist regs xs) (less_dest regs d h) (less_all regs xs k)
 
-instr_valid : (rows : List ShapeRow) (regs arrays : ℕ) (i : Instr) → Ok rows regs arrays i → IsValidInstr rows regs arrays i
-instr_valid rows regs arrays (Const d w) h = ltb-true d regs (one_met _ Register h)
-instr_valid rows regs arrays (Move d s) h = two_less d s regs (one_met _ Register h)
-instr_valid rows regs arrays (Conv d t s) h = two_less d s regs (one_met _ Register h)
-instr_valid rows regs arrays (Bin o d a b) h = let r = and_parts (nat_lt d regs) (nat_lt a regs && nat_lt b regs) (one_met _ Register h) in let s = two_less a b regs r.1 in (ltb-true d regs r.0, s.0, s.1)
-instr_valid rows regs arrays (Get d g) h = let r = two_met (nat_lt d regs) (is_object (shape_at rows g)) Register Object h in (ltb-true d regs r.0, object_shape (shape_at rows g) r.1)
-instr_valid rows regs arrays (Set g s) h = let r = two_met (nat_lt s regs) (is_object (shape_at rows g)) Register Object h in (ltb-true s regs r.0, object_shape (shape_at rows g) r.1)
-instr_valid rows regs arrays (GetX d g i) h = let r = two_met (nat_lt d regs && nat_lt i regs) (is_object (shape_at rows g)) Register Object h in let s = two_less d i regs r.0 in (s.0, s.1, object_shape (shape_at rows g) r.1)
-instr_valid rows regs arrays (SetX g i s) h = let r = two_met (nat_lt i regs && nat_lt s regs) (is_object (shape_at rows g)) Register Object h in let t = two_less i s regs r.0 in (t.0, t.1, object_shape (shape_at rows g) r.1)
-instr_valid rows regs arrays (GetA d a i) h = let r = two_met (nat_lt d regs && nat_lt i regs) (nat_lt a arrays) Register Array h in let s = two_less d i regs r.0 in (s.0, s.1, ltb-true a arrays r.1)
-instr_valid rows regs arrays (SetA a i s) h = let r = two_met (nat_lt i regs && nat_lt s regs) (nat_lt a arrays) Register Array h in let t = two_less i s regs r.0 in (t.0, t.1, ltb-true a arrays r.1)
-instr_valid rows regs arrays (Clear r c a m) h = let t = two_met _ _ Register Array h in (leb-true (r + c) regs t.0, leb-true (a + m) arrays t.1)
-instr_valid rows regs arrays Turn h = tt
-instr_valid rows regs arrays (Call dest p count args) h = call_valid rows regs arrays dest p count args h
-instr_valid rows regs arrays (GetChar d) h = ltb-true d regs (one_met _ Register h)
-instr_valid rows regs arrays (PutChar d s) h = two_less d s regs (one_met _ Register h)
+module _ (rows : List ShapeRow) (regs arrays : ℕ) where
+  -- what is met of an instruction with this destination and these sources
+  met : (i : Instr) → Ok rows regs arrays i → (registers_exist regs i ≡ true) × (first_broken (named_conditions rows arrays i) ≡ None)
+  met i h = head_met (registers_exist regs i) Register (named_conditions rows arrays i) h
 
-valid_instr : (rows : List ShapeRow) (regs arrays : ℕ) (i : Instr) → IsValidInstr rows regs arrays i → Ok rows regs arrays i
-valid_instr rows regs arrays (Const d w) h = one_meets _ Register (lt-ltb d regs h)
-valid_instr rows regs arrays (Move d s) h = one_meets _ Register (less_two d s regs h.0 h.1)
-valid_instr rows regs arrays (Conv d t s) h = one_meets _ Register (less_two d s regs h.0 h.1)
-valid_instr rows regs arrays (Bin o d a b) h = one_meets _ Register (and_from (nat_lt d regs) (nat_lt a regs && nat_lt b regs) (lt-ltb d regs h.0) (less_two a b regs h.1 h.2))
-valid_instr rows regs arrays (Get d g) h = two_meet _ _ Register Object (lt-ltb d regs h.0) (shape_object (shape_at rows g) h.1)
-valid_instr rows regs arrays (Set g s) h = two_meet _ _ Register Object (lt-ltb s regs h.0) (shape_object (shape_at rows g) h.1)
-valid_instr rows regs arrays (GetX d g i) h = two_meet _ _ Register Object (less_two d i regs h.0 h.1) (shape_object (shape_at rows g) h.2)
-valid_instr rows regs arrays (SetX g i s) h = two_meet _ _ Register Object (less_two i s regs h.0 h.1) (shape_object (shape_at rows g) h.2)
-valid_instr rows regs arrays (GetA d a i) h = two_meet _ _ Register Array (less_two d i regs h.0 h.1) (lt-ltb a arrays h.2)
-valid_instr rows regs arrays (SetA a i s) h = two_meet _ _ Register Array (less_two i s regs h.0 h.1) (lt-ltb a arrays h.2)
-valid_instr rows regs arrays (Clear r c a m) h = two_meet _ _ Register Array (le-leb (r + c) regs h.0) (le-leb (a + m) arrays h.1)
-valid_instr rows regs arrays Turn h = refl
-valid_instr rows regs arrays (Call dest p count args) h = valid_call rows regs arrays dest p count args h
-valid_instr rows regs arrays (GetChar d) h = one_meets _ Register (lt-ltb d regs h)
-valid_instr rows regs arrays (PutChar d s) h = one_meets _ Register (less_two d s regs h.0 h.1)
+  named_object : (g : ℕ) → first_broken (object_conditions rows (Some g)) ≡ None → IsObjectShape (shape_at rows g)
+  named_object g h = object_shape (shape_at rows g) (one_met _ Object h)
+
+  object_named : (g : ℕ) → IsObjectShape (shape_at rows g) → first_broken (object_conditions rows (Some g)) ≡ None
+  object_named g h = one_meets _ Object (shape_object (shape_at rows g) h)
+
+  instr_valid : (i : Instr) → Ok rows regs arrays i → IsValidInstr rows regs arrays i
+  instr_valid (Const d w) h = (in_range regs (Some d) [] (met (Const d w) h).0).0
+  instr_valid (Move d s) h = let r = in_range regs (Some d) (s ∷ []) (met (Move d s) h).0 in (r.0, r.1.0)
+  instr_valid (Conv d t s) h = let r = in_range regs (Some d) (s ∷ []) (met (Conv d t s) h).0 in (r.0, r.1.0)
+  instr_valid (Bin o d a b) h = let r = in_range regs (Some d) (a ∷ b ∷ []) (met (Bin o d a b) h).0 in (r.0, r.1.0, r.1.1.0)
+  instr_valid (Get d g) h = let m = met (Get d g) h in ((in_range regs (Some d) [] m.0).0, named_object g m.1)
+  instr_valid (Set g s) h = let m = met (Set g s) h in ((in_range regs None (s ∷ []) m.0).1.0, named_object g m.1)
+  instr_valid (GetX d g i) h =
+      let m = met (GetX d g i) h in
+      let r = in_range regs (Some d) (i ∷ []) m.0 in
+      (r.0, r.1.0, named_object g m.1)
+  instr_valid (SetX g i s) h =
+      let m = met (SetX g i s) h in
+      let r = in_range regs None (i ∷ s ∷ []) m.0 in
+      (r.1.0, r.1.1.0, named_object g m.1)
+  instr_valid (GetA d a i) h =
+      let m = met (GetA d a i) h in
+      let r = in_range regs (Some d) (i ∷ []) m.0 in
+      (r.0, r.1.0, ltb-true a arrays (one_met _ Array m.1))
+  instr_valid (SetA a i s) h =
+      let m = met (SetA a i s) h in
+      let r = in_range regs None (i ∷ s ∷ []) m.0 in
+      (r.1.0, r.1.1.0, ltb-true a arrays (one_met _ Array m.1))
+  instr_valid (Clear r c a m) h = let t = met (Clear r c a m) h in (leb-true (r + c) regs t.0, leb-true (a + m) arrays (one_met _ Array t.1))
+  instr_valid Turn h = tt
+  instr_valid (Call dest p count args) h =
+      let m = met (Call dest p count args) h in
+      let r = in_range regs dest args m.0 in
+      (r.0, r.1, callee_valid (shape_at rows p) (length args) dest m.1)
+  instr_valid (GetChar d) h = (in_range regs (Some d) [] (met (GetChar d) h).0).0
+  instr_valid (PutChar d s) h = let r = in_range regs (Some d) (s ∷ []) (met (PutChar d s) h).0 in (r.0, r.1.0)
+
+  meets : (i : Instr) → registers_exist regs i ≡ true → first_broken (named_conditions rows arrays i) ≡ None → Ok rows regs arrays i
+  meets i h k = cons_met (registers_exist regs i) Register (named_conditions rows arrays i) h k
+
+  valid_instr : (i : Instr) → IsValidInstr rows regs arrays i → Ok rows regs arrays i
+  valid_instr (Const d w) h = meets (Const d w) (range_in regs (Some d) [] h tt) refl
+  valid_instr (Move d s) h = meets (Move d s) (range_in regs (Some d) (s ∷ []) h.0 (h.1, tt)) refl
+  valid_instr (Conv d t s) h = meets (Conv d t s) (range_in regs (Some d) (s ∷ []) h.0 (h.1, tt)) refl
+  valid_instr (Bin o d a b) h = meets (Bin o d a b) (range_in regs (Some d) (a ∷ b ∷ []) h.0 (h.1, (h.2, tt))) refl
+  valid_instr (Get d g) h = meets (Get d g) (range_in regs (Some d) [] h.0 tt) (object_named g h.1)
+  valid_instr (Set g s) h = meets (Set g s) (range_in regs None (s ∷ []) tt (h.0, tt)) (object_named g h.1)
+  valid_instr (GetX d g i) h = meets (GetX d g i) (range_in regs (Some d) (i ∷ []) h.0 (h.1, tt)) (object_named g h.2)
+  valid_instr (SetX g i s) h = meets (SetX g i s) (range_in regs None (i ∷ s ∷ []) tt (h.0, (h.1, tt))) (object_named g h.2)
+  valid_instr (GetA d a i) h = meets (GetA d a i) (range_in regs (Some d) (i ∷ []) h.0 (h.1, tt)) (one_meets _ Array (lt-ltb a arrays h.2))
+  valid_instr (SetA a i s) h = meets (SetA a i s) (range_in regs None (i ∷ s ∷ []) tt (h.0, (h.1, tt))) (one_meets _ Array (lt-ltb a arrays h.2))
+  valid_instr (Clear r c a m) h = meets (Clear r c a m) (le-leb (r + c) regs h.0) (one_meets _ Array (le-leb (a + m) arrays h.1))
+  valid_instr Turn h = meets Turn refl refl
+  valid_instr (Call dest p count args) h =
+      meets (Call dest p count args) (range_in regs dest args h.0 h.1) (valid_callee (shape_at rows p) (length args) dest h.2)
+  valid_instr (GetChar d) h = meets (GetChar d) (range_in regs (Some d) [] h tt) refl
+  valid_instr (PutChar d s) h = meets (PutChar d s) (range_in regs (Some d) (s ∷ []) h.0 (h.1, tt)) refl
 
 instrs_valid : (rows : List ShapeRow) (regs arrays : ℕ) (is : List Instr) → first_broken (flat_map (λ i. instr_conditions rows regs arrays i) is) ≡ None → AllByRecursion (IsValidInstr rows regs arrays) is
 instrs_valid rows regs arrays [] h = tt

@@ -5,13 +5,14 @@ use Rattle.std.specs.List.{list_all}
 use Rattle.std.specs.Bool.{beq}
 use Rattle.il_core.specs.declared.instr.Block.{Block}
 use Rattle.il_core.specs.declared.instr.Instr.{Instr}
-use Rattle.il_core.specs.declared.instr.Instr.TheVariants.{Const, Move, Conv, Bin, Get, Set, GetX, SetX, GetA, SetA, Clear, Turn, Call, GetChar, PutChar}
+use Rattle.il_core.specs.declared.instr.Instr.TheVariants.{GetA, SetA, Clear, Call}
 use Rattle.il_core.specs.declared.instr.End.{End}
 use Rattle.il_core.specs.declared.instr.End.TheVariants as ends
 use Rattle.il_core.specs.declared.shape.ShapeRow.{ShapeRow}
 use Rattle.il_core.specs.declared.shape.Shape.{Shape}
 use Rattle.il_core.specs.declared.shape.Shape.TheVariants as shape
 use Rattle.il_core.specs.Routine.{RoutineParts}
+use Rattle.il_core.specs.Operands.{destination, object_of, sources}
 use Rattle.il_core.specs.Program.{shape_at}
 use Rattle.il_check.specs.declared.flaw.Flaw.{Flaw}
 use Rattle.il_check.specs.declared.flaw.Flaw.TheVariants.{Params, Register, Array, Object, Callee, Arguments, Result, Target, ReturnKind}
@@ -55,23 +56,26 @@ gives_value (Some (shape.Routine params value)) = value
 abbrev pub callee_conditions : Option Shape → ℕ → Bool → List Condition
 callee_conditions s count wanted = (is_routine s, Callee) ∷ (nat_eq (params_of s) count, Arguments) ∷ (beq (gives_value s) wanted, Result) ∷ []
 
+-- the registers that an instruction names exist: of `clear` the range ends within them
+abbrev pub registers_exist : ℕ → Instr → Bool
+registers_exist regs (Clear r c a m) = nat_le (r + c) regs
+registers_exist regs i = exist regs (option_to_list (destination i)) && exist regs (sources i)
+
+-- an object, where one is named
+abbrev pub object_conditions : List ShapeRow → Option ℕ → List Condition
+object_conditions rows None = []
+object_conditions rows (Some g) = (is_object (shape_at rows g), Object) ∷ []
+
+-- what else an instruction names
+abbrev pub named_conditions : List ShapeRow → ℕ → Instr → List Condition
+named_conditions rows arrays (GetA d a i) = (nat_lt a arrays, Array) ∷ []
+named_conditions rows arrays (SetA a i s) = (nat_lt a arrays, Array) ∷ []
+named_conditions rows arrays (Clear r c a m) = (nat_le (a + m) arrays, Array) ∷ []
+named_conditions rows arrays (Call dest p count args) = callee_conditions (shape_at rows p) (length args) (is_some dest)
+named_conditions rows arrays i = object_conditions rows (object_of i)
+
 abbrev pub instr_conditions : List ShapeRow → ℕ → ℕ → Instr → List Condition
-instr_conditions rows regs arrays (Const d w) = (nat_lt d regs, Register) ∷ []
-instr_conditions rows regs arrays (Move d s) = (nat_lt d regs && nat_lt s regs, Register) ∷ []
-instr_conditions rows regs arrays (Conv d t s) = (nat_lt d regs && nat_lt s regs, Register) ∷ []
-instr_conditions rows regs arrays (Bin o d a b) = (nat_lt d regs && (nat_lt a regs && nat_lt b regs), Register) ∷ []
-instr_conditions rows regs arrays (Get d g) = (nat_lt d regs, Register) ∷ (is_object (shape_at rows g), Object) ∷ []
-instr_conditions rows regs arrays (Set g s) = (nat_lt s regs, Register) ∷ (is_object (shape_at rows g), Object) ∷ []
-instr_conditions rows regs arrays (GetX d g i) = (nat_lt d regs && nat_lt i regs, Register) ∷ (is_object (shape_at rows g), Object) ∷ []
-instr_conditions rows regs arrays (SetX g i s) = (nat_lt i regs && nat_lt s regs, Register) ∷ (is_object (shape_at rows g), Object) ∷ []
-instr_conditions rows regs arrays (GetA d a i) = (nat_lt d regs && nat_lt i regs, Register) ∷ (nat_lt a arrays, Array) ∷ []
-instr_conditions rows regs arrays (SetA a i s) = (nat_lt i regs && nat_lt s regs, Register) ∷ (nat_lt a arrays, Array) ∷ []
-instr_conditions rows regs arrays (Clear r c a m) = (nat_le (r + c) regs, Register) ∷ (nat_le (a + m) arrays, Array) ∷ []
-instr_conditions rows regs arrays Turn = []
-instr_conditions rows regs arrays (Call dest p count args) =
-    (exist regs (option_to_list dest) && exist regs args, Register) ∷ callee_conditions (shape_at rows p) (length args) (is_some dest)
-instr_conditions rows regs arrays (GetChar d) = (nat_lt d regs, Register) ∷ []
-instr_conditions rows regs arrays (PutChar d s) = (nat_lt d regs && nat_lt s regs, Register) ∷ []
+instr_conditions rows regs arrays i = (registers_exist regs i, Register) ∷ named_conditions rows arrays i
 
 -- block t comes after block b, of so many
 abbrev pub is_later : ℕ → ℕ → ℕ → Bool

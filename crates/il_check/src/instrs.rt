@@ -1,9 +1,9 @@
 //! The conditions of instructions.
-ghost use Rattle.std.specs.Prelude.{◌≡◌, [], ◌∷◌, flat_map, option_to_list, ◌&&◌};
-ghost use Rattle.il_core.specs.Program.{shape_at};
-ghost use Rattle.il_check.specs.Conditions.{first_broken, exist, is_object, callee_conditions, instr_conditions};
+ghost use Rattle.std.specs.Prelude.{◌≡◌, [], ◌∷◌, flat_map, option_to_list};
+ghost use Rattle.il_core.specs.Operands.{sources};
+ghost use Rattle.il_check.specs.Conditions.{first_broken, exist, callee_conditions, object_conditions, registers_exist, instr_conditions};
 
-use crate::flaw::{Flaw, flaw_unless};
+use crate::flaw::Flaw;
 use crate::rows::shape_of;
 use il_core::{Instr, Shape, Shapes};
 
@@ -28,95 +28,63 @@ pub(crate) fn instrs_flaw(
 fn instr_flaw(shapes: &Shapes, regs: u32, arrays: usize, instr: &Instr) -> Option<Flaw>
     ensures { result ≡ first_broken (instr_conditions shapes.now regs arrays instr.now) }
 {
+    if !registers_exist(regs, instr) {
+        return Some(Flaw::Register);
+    }
     match instr {
-        Instr::Const(d, _) | Instr::GetChar(d) => flaw_unless(*d < regs, true, Flaw::Register),
-        Instr::Move(d, s) | Instr::Conv(d, _, s) | Instr::PutChar(d, s) => {
-            flaw_unless(*d < regs && *s < regs, true, Flaw::Register)
-        }
-        Instr::Bin(_, d, a, b) => flaw_unless(
-            *d < regs && (*a < regs && *b < regs),
-            true,
-            Flaw::Register,
-        ),
-        Instr::Get(d, g) => object(shapes, *d < regs, *g),
-        Instr::Set(g, s) => object(shapes, *s < regs, *g),
-        Instr::GetX(d, g, i) => object(shapes, *d < regs && *i < regs, *g),
-        Instr::SetX(g, i, s) => object(shapes, *i < regs && *s < regs, *g),
-        Instr::GetA(d, a, i) => flaw_unless(
-            *d < regs && *i < regs,
-            (*a as usize) < arrays,
-            Flaw::Array,
-        ),
-        Instr::SetA(a, i, s) => flaw_unless(
-            *i < regs && *s < regs,
-            (*a as usize) < arrays,
-            Flaw::Array,
-        ),
-        Instr::Clear(r, c, a, m) => flaw_unless(
-            u64::from(*r) + u64::from(*c) <= u64::from(regs),
-            u64::from(*a) + u64::from(*m) <= arrays as u64,
-            Flaw::Array,
-        ),
-        Instr::Turn => None,
+        Instr::GetA(_, a, _) | Instr::SetA(a, _, _) => array_flaw((*a as usize) < arrays),
+        Instr::Clear(_, _, a, m) => array_flaw(u64::from(*a) + u64::from(*m) <= arrays as u64),
         Instr::Call {
             dest,
             callee,
             args,
             ..
-        } => call_flaw(shapes, regs, *dest, *callee, args.as_slice()),
+        } => callee_flaw(shape_of(shapes, *callee), args.len(), dest.is_some()),
+        _ => object_flaw(shapes, instr.object()),
     }
 }
 
-/// The flaw of an access to an object.
-fn object(shapes: &Shapes, registers: bool, pid: u32) -> Option<Flaw>
-    ensures { result ≡ first_broken ((registers, Flaw.Register) ∷ (is_object (shape_at shapes.now pid), Flaw.Object) ∷ []) }
+/// Whether the registers that an instruction names exist.
+fn registers_exist(regs: u32, instr: &Instr) -> bool
+    ensures { result ≡ registers_exist regs instr.now }
 {
-    if !registers {
-        return Some(Flaw::Register);
-    }
-    match shape_of(shapes, pid) {
-        Some(Shape::Object { .. }) => None,
-        _ => Some(Flaw::Object),
+    match instr {
+        Instr::Clear(r, c, _, _) => u64::from(*r) + u64::from(*c) <= u64::from(regs),
+        _ => dest_exists(regs, instr.destination()) && sources_exist(regs, instr),
     }
 }
 
-/// What is wrong with a call.
-fn call_flaw(
-    shapes: &Shapes,
-    regs: u32,
-    dest: Option<u32>,
-    callee: u32,
-    args: &[u32],
-) -> Option<Flaw>
-    ensures { result ≡ first_broken (instr_conditions shapes.now regs 0 (Instr.Call dest callee 0 args.now)) }
+/// Whether the registers that an instruction reads exist.
+fn sources_exist(regs: u32, instr: &Instr) -> bool
+    ensures { result ≡ exist regs (sources instr.now) }
 {
-    if !exist(regs, dest, args) {
-        return Some(Flaw::Register);
-    }
-    callee_flaw(shape_of(shapes, callee), args.len(), dest.is_some())
+    instr.sources().all(|source| source < regs)
 }
 
-/// Whether the registers of a call exist.
-fn exist(regs: u32, dest: Option<u32>, args: &[u32]) -> bool
-    ensures { result ≡ (exist regs (option_to_list dest) && exist regs args.now) }
-{
-    dest_exists(regs, dest) && args_exist(regs, args)
-}
-
-/// Whether a call's arguments exist.
-fn args_exist(regs: u32, args: &[u32]) -> bool
-    ensures { result ≡ exist regs args.now }
-{
-    args.iter().all(|arg| *arg < regs)
-}
-
-/// Whether a call's destination exists, where it has one.
+/// Whether a destination exists, where there is one.
 fn dest_exists(regs: u32, dest: Option<u32>) -> bool
     ensures { result ≡ exist regs (option_to_list dest) }
 {
     match dest {
         Some(d) => d < regs,
         None => true,
+    }
+}
+
+/// The flaw of local arrays that may not exist.
+fn array_flaw(exist: bool) -> Option<Flaw>
+    ensures { result ≡ first_broken ((exist, Flaw.Array) ∷ []) }
+{
+    if exist { None } else { Some(Flaw::Array) }
+}
+
+/// The flaw of an access to an object, where there is one.
+fn object_flaw(shapes: &Shapes, pid: Option<u32>) -> Option<Flaw>
+    ensures { result ≡ first_broken (object_conditions shapes.now pid) }
+{
+    match shape_of(shapes, pid?) {
+        Some(Shape::Object { .. }) => None,
+        _ => Some(Flaw::Object),
     }
 }
 

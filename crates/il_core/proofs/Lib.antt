@@ -1,7 +1,15 @@
+pub mod Bound
+pub mod Cover
 pub mod Effects
 pub mod Following
+pub mod Found
 pub mod Frames
+pub mod Logging
+pub mod Main
+pub mod Places
+pub mod Programs
 pub mod Renaming
+pub mod Running
 pub mod Samples
 pub mod Targets
 pub mod Unread

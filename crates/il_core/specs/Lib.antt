@@ -2,6 +2,7 @@ pub mod Limits
 pub mod Meaning
 pub mod Object
 pub mod Operands
+pub mod Places
 pub mod Program
 pub mod Ranges
 pub mod Routine

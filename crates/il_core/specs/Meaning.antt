@@ -1,7 +1,7 @@
 -- The meaning of IL. The recursion goes down a bound on the turns, then the blocks that follow, then the instructions
 -- left. A call of a routine begins with all registers but the parameters at 0, and all arrays at 0. `Call`, `Loop` and
 -- `Turn` cost one turn each.
-use Rattle.std.specs.Prelude.{ℕ, zero, suc, ◌+◌, ◌&&◌, Bool, List, [], ◌∷◌, Option, Some, None, nat_eq, nat_le, nat_lt, if◌then◌else◌, slice_index}
+use Rattle.std.specs.Prelude.{◌≡◌, ℕ, zero, suc, ◌+◌, ◌&&◌, Bool, List, [], ◌∷◌, Option, Some, None, nat_eq, nat_le, nat_lt, if◌then◌else◌, slice_index}
 use Rattle.hlo_num.specs.Words.{convert}
 use Rattle.hlo_num.specs.Operators.{operate}
 use Rattle.il_core.specs.declared.instr.Block.{Block}
@@ -164,6 +164,11 @@ run_of Stuck = None
 -- what a program does on an input with a number of turns: its `main` is called, which is no turn
 abbrev pub il_run : IlProgram → List ℕ → ℕ → Option Run
 il_run p input turns = run_of (act p (main_pid p.shapes) [] (at_start tt p input turns))
+
+-- a program has a run on an input with so many turns
+pub record HasRun (p : IlProgram) (input : List ℕ) (turns : ℕ) : Type 0 where
+  pub run : Run
+  pub is : il_run p input turns ≡ Some run
 
 -- the log in the end
 abbrev pub log_of : {S : Type 0} → S → Outcome S → S

@@ -1,5 +1,5 @@
 -- Which routines and programs are valid.
-use Rattle.std.specs.Prelude.{◌≡◌, ◌≢◌, ℕ, ◌+◌, ◌^◌, ◌<◌, ◌≤◌, Bool, true, false, List, [], ◌∷◌, Option, Some, None, length, codes, ⊤, Contains}
+use Rattle.std.specs.Prelude.{◌≡◌, ◌≢◌, ℕ, ◌+◌, ◌<◌, ◌≤◌, Bool, true, false, List, [], ◌∷◌, Option, Some, None, length, codes, ⊤, Contains}
 use Rattle.std.specs.List.{AllByRecursion}
 use Rattle.il_core.specs.declared.instr.Block.{Block}
 use Rattle.il_core.specs.declared.instr.Instr.{Instr}
@@ -14,7 +14,7 @@ use Rattle.il_core.specs.declared.program.IlProgram.{IlProgram}
 use Rattle.il_core.specs.Routine.{RoutineParts}
 use Rattle.il_core.specs.Program.{shape_at}
 use Rattle.il_core.specs.Shapes.{IsRising}
-use Rattle.il_core.specs.Limits.{IsPid}
+use Rattle.il_core.specs.Limits.{IsPid, max_routines}
 
 -- a PID names an object
 abbrev pub IsObjectShape : Option Shape → Type 0
@@ -99,7 +99,7 @@ pub record IsProgram (p : IlProgram) : Type 0 where
   pub rows : IsRising (λ row. row.pid) p.shapes
   pub shapes : HasShapesOf p.shapes p.objects p.routines
   pub names : HasEachNameOnce p.shapes
-  pub few : length p.routines ≤ 2 ^ 12
+  pub few : length p.routines ≤ max_routines
   pub pids : AllByRecursion (λ row. IsPid row.pid) p.shapes
   pub words : AllByRecursion (λ o. 0 < o.words) p.objects
   pub each : AllByRecursion (IsValid p.shapes) p.routines

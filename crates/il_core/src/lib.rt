@@ -3,6 +3,7 @@
 #![tactic(auto)]
 
 mod instr;
+pub mod limits;
 mod operands;
 mod program;
 mod routine;

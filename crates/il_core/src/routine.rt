@@ -1,17 +1,15 @@
 //! Routines, their size and their charge.
-ghost use Rattle.std.specs.Prelude.{◌≡◌, ◌+◌, ◌*◌, ◌^◌, ◌≤◌, length};
+ghost use Rattle.std.specs.Prelude.{◌≡◌, ◌+◌, ◌*◌, ◌≤◌, length};
 ghost use Rattle.std.specs.Prelude.{sum_by};
 ghost use Rattle.std.specs.List.{AllByRecursion};
-ghost use Rattle.il_core.specs.Limits.{IsBlock, IsInstr};
+ghost use Rattle.il_core.specs.Limits.{IsBlock, IsInstr, max_parameters, max_size};
 ghost use Rattle.il_core.specs.Size.{arguments, block_size, blocks_size, blocks_arguments, size, charge};
 
 use crate::instr::{Block, Instr};
 use hlo_num::Seq;
 use std::marker::Model;
 
-/// One routine of a program, within the limits of the language: at most 31 parameters, 32,768
-/// registers, 4,096 local arrays with 1,048,576 elements, a size of 65,536, and 31 arguments of each
-/// call. All registers but the parameters, which are the first ones, and all arrays are 0 at a call.
+/// One routine of a program, within the [`limits`](crate::limits) of the language. All registers but the parameters, which are the first ones, and all arrays are 0 at a call.
 #[derive(Drop)]
 pub struct Routine {
     pub pid: u32,
@@ -44,7 +42,7 @@ impl Routine {
     /// blocks.
     pub fn size(&self) -> u32
         ensures size { result ≡ size self.now }
-        ensures bound { result ≤ 2 ^ 16 }
+        ensures bound { result ≤ max_size }
     {
         size_of_blocks(self.blocks.as_slice())
     }
@@ -60,7 +58,7 @@ impl Routine {
 }
 
 fn size_of_blocks(blocks: &[Block]) -> u32
-    requires { blocks_size blocks.now ≤ 2 ^ 16 }
+    requires { blocks_size blocks.now ≤ max_size }
     ensures { result ≡ blocks_size blocks.now }
 {
     let mut size = 0;
@@ -72,9 +70,9 @@ fn size_of_blocks(blocks: &[Block]) -> u32
 
 fn arguments_of_blocks(blocks: &[Block]) -> u64
     requires few { AllByRecursion IsBlock blocks.now }
-    requires sized { blocks_size blocks.now ≤ 2 ^ 16 }
+    requires sized { blocks_size blocks.now ≤ max_size }
     ensures value { result ≡ blocks_arguments blocks.now }
-    ensures bound { result ≤ 31 * blocks_size blocks.now }
+    ensures bound { result ≤ max_parameters * blocks_size blocks.now }
 {
     let mut arguments = 0;
     for block in blocks {
@@ -85,9 +83,9 @@ fn arguments_of_blocks(blocks: &[Block]) -> u64
 
 fn arguments_of_instrs(instrs: &[Instr]) -> u64
     requires few { AllByRecursion IsInstr instrs.now }
-    requires sized { length instrs.now ≤ 2 ^ 16 }
+    requires sized { length instrs.now ≤ max_size }
     ensures value { result ≡ sum_by arguments instrs.now }
-    ensures bound { result ≤ 31 * length instrs.now }
+    ensures bound { result ≤ max_parameters * length instrs.now }
 {
     let mut total = 0;
     for instr in instrs {

@@ -16,7 +16,8 @@ use Rattle.il_laws.specs.Table.{Row, IsRight}
 use Rattle.il_laws.proofs.Alike.{anything, calls_fall}
 use Rattle.il_laws.proofs.CloneRuns.{has_regs, clone_run}
 use Rattle.il_laws.proofs.Keeps.{called_routine}
-use Rattle.il_laws.proofs.Programs.{routine_valid, valid_calls}
+use Rattle.il_core.proofs.Programs.{routine_valid}
+use Rattle.il_laws.proofs.Programs.{valid_calls}
 use Rattle.il_laws.proofs.Sound.{valid_sound}
 
 module _ (p : IlProgram) (valid : IsProgram p) where

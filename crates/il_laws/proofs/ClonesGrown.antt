@@ -15,7 +15,7 @@ use Rattle.il_laws.specs.Keeping.{Stands, KeepsAct}
 use Rattle.il_laws.proofs.CloneRows.{clone_is_right, row_stays}
 use Rattle.il_laws.proofs.CloneValid.{clone_valid}
 use Rattle.il_laws.proofs.Grown.{IsNext, grown, shape_left, shape_new, still_there, new_there, grown_follows, grown_main}
-use Rattle.il_laws.proofs.Programs.{routine_valid, shape_is}
+use Rattle.il_core.proofs.Programs.{routine_valid, shape_is}
 use Rattle.il_laws.proofs.Serving.{follow_then}
 
 -- a program with a clone that fits is one with one routine more

@@ -1,6 +1,6 @@
 -- One routine more: the program stays valid, and the others do what they did.
 use Rattle.std.proofs.Common.{◌≡◌, ℕ, ◌<◌, List, [], ◌∷◌, ◌++◌, refl, ap, subst, sym, ◌∙◌, arith, length, inl, inr}
-use Rattle.std.specs.Prelude.{◌≢◌, nat_eq, if◌then◌else◌, Option, Some, ◌^◌}
+use Rattle.std.specs.Prelude.{◌≢◌, nat_eq, if◌then◌else◌, Option, Some}
 use Rattle.std.specs.List.{AllByRecursion}
 use Rattle.std.proofs.lemmas.Bool.{cases_eq}
 use Rattle.std.proofs.lemmas.List.{length-append}
@@ -10,7 +10,7 @@ use Rattle.il_core.specs.declared.program.IlProgram.{IlProgram}
 use Rattle.il_core.specs.declared.shape.Shape.{Shape}
 use Rattle.il_core.specs.declared.shape.Shape.TheVariants as shape
 use Rattle.il_core.specs.declared.shape.ShapeRow.{ShapeRow}
-use Rattle.il_core.specs.Limits.{IsPid}
+use Rattle.il_core.specs.Limits.{IsPid, max_routines}
 use Rattle.il_core.specs.Object.{ObjectParts}
 use Rattle.il_core.specs.Program.{found, routine_at, shape_of_row, shape_at, main_pid}
 use Rattle.il_core.specs.Routine.{RoutineParts}
@@ -18,9 +18,10 @@ use Rattle.il_core.specs.Shapes.{IsRising, IsRisingFrom}
 use Rattle.il_core.specs.Valid.{IsProgram, IsValid, HasEachNameOnce}
 use Rattle.il_laws.specs.Keeping.{Stands, MayFollow}
 use Rattle.il_laws.proofs.Alike.{anything, anything_blocks}
-use Rattle.il_laws.proofs.Found.{found_here, found_there}
+use Rattle.il_core.proofs.Found.{found_here, found_there}
 use Rattle.il_laws.proofs.Main.{main_of_row}
-use Rattle.il_laws.proofs.Programs.{routine_valid, valid_calls}
+use Rattle.il_core.proofs.Programs.{routine_valid}
+use Rattle.il_laws.proofs.Programs.{valid_calls}
 use Rattle.il_laws.proofs.Shaped.{valid_stays, in_row, reached_same}
 
 -- lists with one more at the end
@@ -100,7 +101,7 @@ pub record IsNext (p : IlProgram) (r1 : RoutineParts) (row : ShapeRow) : Type 0 
   pub above : AllByRecursion (λ z. z.pid < row.pid) p.shapes
   pub name : AllByRecursion (λ z. z.name ≢ row.name) p.shapes
   pub in_range : IsPid row.pid
-  pub room : length p.routines < 2 ^ 12
+  pub room : length p.routines < max_routines
   pub ok : IsValid p.shapes r1
 
 abbrev pub grown : IlProgram → RoutineParts → ShapeRow → IlProgram

@@ -8,7 +8,7 @@ use Rattle.il_core.specs.declared.shape.ShapeRow.{ShapeRow}
 use Rattle.il_core.specs.Program.{found}
 use Rattle.il_core.specs.Shapes.{IsRising, IsRisingFrom}
 use Rattle.il_core.specs.Valid.{HasEachNameOnce}
-use Rattle.il_laws.proofs.Found.{found_here, found_there}
+use Rattle.il_core.proofs.Found.{found_here, found_there}
 use Rattle.il_laws.proofs.Grown.{all_of}
 
 pub all_both : {X : Type 0} (P Q : X → Type 0) (xs : List X) → AllByRecursion P xs → AllByRecursion Q xs → AllByRecursion (λ x. P x × Q x) xs

@@ -14,7 +14,7 @@ use Rattle.il_core.specs.Routine.{RoutineParts}
 use Rattle.il_core.specs.Valid.{IsProgram}
 use Rattle.il_laws.specs.Edges.{one_if}
 use Rattle.il_laws.specs.Reach.{is_object, stays}
-use Rattle.il_laws.proofs.Found.{found_here, found_there}
+use Rattle.il_core.proofs.Found.{found_here, found_there}
 use Rattle.il_laws.proofs.Grown.{all_of, all_to}
 use Rattle.il_laws.proofs.Kept.{all_both, filter_all, filter_pass, filter_rising, Up, rising_up}
 use Rattle.il_laws.proofs.Shaped.{in_row}

@@ -5,11 +5,8 @@ pub mod Places
 pub mod Induction
 pub mod Lists
 pub mod Same
-pub mod Cover
-pub mod Found
 pub mod Programs
 pub mod Main
-pub mod Running
 pub mod Serving
 pub mod Sound
 pub mod ValidBlocks

@@ -16,7 +16,7 @@ use Rattle.il_laws.specs.Edges.{one_if}
 use Rattle.il_laws.specs.Reach.{Caller, caller_of, is_in, is_called, marked_too, call_rounds, reached, is_reached, is_live}
 use Rattle.il_laws.specs.Runs.{Callable, IsCallIn, CallsIn, BlocksCallIn}
 use Rattle.il_laws.specs.Sites.{listed, callees_in, callees}
-use Rattle.il_laws.proofs.Found.{found_here, found_there}
+use Rattle.il_core.proofs.Found.{found_here, found_there}
 use Rattle.il_laws.proofs.SpliceBlocks.{all_front, all_rest}
 use Rattle.il_laws.proofs.Tests.{or_left, or_right, or_either}
 

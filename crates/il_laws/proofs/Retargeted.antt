@@ -26,7 +26,8 @@ use Rattle.il_laws.proofs.Alike.{anything, calls_fall}
 use Rattle.il_laws.proofs.Improved.{Change, SameInstrs, IsImproved, improved_keeps}
 use Rattle.il_laws.proofs.Knows.{Knows}
 use Rattle.il_laws.proofs.Lists.{ValidBlock, valid_block}
-use Rattle.il_laws.proofs.Programs.{routine_valid, valid_calls}
+use Rattle.il_core.proofs.Programs.{routine_valid}
+use Rattle.il_laws.proofs.Programs.{valid_calls}
 use Rattle.il_laws.proofs.Same.{Leaves, SameAt, step_at}
 use Rattle.il_laws.proofs.Serving.{routine_follows}
 use Rattle.il_laws.proofs.Sound.{valid_sound}

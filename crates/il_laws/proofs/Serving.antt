@@ -18,8 +18,9 @@ use Rattle.il_laws.specs.Keeping.{Stands, KeepsAct, MayFollow, with_each, with_r
 use Rattle.il_laws.specs.Runs.{run, called}
 use Rattle.il_laws.specs.Serving.{Serves}
 use Rattle.il_laws.proofs.Keeps.{SameRoutine, act_kept}
-use Rattle.il_laws.proofs.Found.{found_here, found_there, found_number, found_at}
-use Rattle.il_laws.proofs.Programs.{routine_valid, shape_is, valid_calls}
+use Rattle.il_core.proofs.Found.{found_here, found_there, found_number, found_at}
+use Rattle.il_core.proofs.Programs.{routine_valid, shape_is}
+use Rattle.il_laws.proofs.Programs.{valid_calls}
 use Rattle.il_laws.proofs.Main.{main_stands}
 
 pub serves_itself : (p : IlProgram) (r : RoutineParts) → IsValid p.shapes r → Serves p r r

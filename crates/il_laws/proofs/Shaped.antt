@@ -16,7 +16,7 @@ use Rattle.il_core.specs.Valid.{IsValid, IsValidInstr, IsRoutineShape, IsObjectS
 use Rattle.il_core.specs.World.{World}
 use Rattle.il_core.specs.Meaning.{act}
 use Rattle.il_laws.specs.Runs.{Callable, IsCallIn, CallsIn, BlocksCallIn}
-use Rattle.il_laws.proofs.Found.{found_number}
+use Rattle.il_core.proofs.Found.{found_number}
 use Rattle.il_laws.proofs.Keeps.{SameRoutine, act_kept}
 
 -- Other rows: objects keep their shapes, and so do the routines that may be called.

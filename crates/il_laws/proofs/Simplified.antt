@@ -9,7 +9,7 @@ use Rattle.il_laws.specs.Merge.{merge_blocks}
 use Rattle.il_laws.specs.Simplify.{one_round, simplify}
 use Rattle.il_laws.specs.Serving.{Serves}
 use Rattle.il_laws.specs.SimplifyLaws.{MayChangeOne, MayChangeAll}
-use Rattle.il_laws.proofs.Programs.{routine_valid}
+use Rattle.il_core.proofs.Programs.{routine_valid}
 use Rattle.il_laws.proofs.Serving.{serves_then, routine_follows, each_follows}
 use Rattle.il_laws.proofs.Propagated.{propagate_serves, fold_serves}
 use Rattle.il_laws.proofs.Unreached.{unreachable_serves}

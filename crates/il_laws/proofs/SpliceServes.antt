@@ -19,9 +19,10 @@ use Rattle.il_laws.specs.Inline.{SiteBody, inlined, IsFalling}
 use Rattle.il_laws.specs.SpliceLaws.{ServesSite, EachServes, with_routines, ServesThere}
 use Rattle.il_laws.proofs.Alike.{anything, calls_fall}
 use Rattle.il_laws.proofs.Keeps.{called_is}
-use Rattle.il_laws.proofs.Found.{found_number}
+use Rattle.il_core.proofs.Found.{found_number}
 use Rattle.il_laws.proofs.Lists.{valid_block}
-use Rattle.il_laws.proofs.Programs.{callee_fits, routine_valid, valid_calls}
+use Rattle.il_core.proofs.Programs.{callee_fits, routine_valid}
+use Rattle.il_laws.proofs.Programs.{valid_calls}
 use Rattle.il_laws.proofs.Serving.{serves_itself, serves_then, each_follows, routine_follows}
 use Rattle.il_laws.proofs.SpliceBlocks.{call_of, site_block, blocks_with, all_rest, Fits}
 use Rattle.il_laws.proofs.SpliceRuns.{spliced_run}

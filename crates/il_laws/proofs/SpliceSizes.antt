@@ -18,7 +18,7 @@ use Rattle.il_laws.specs.Inline.{SiteBody, IsFalling}
 use Rattle.il_laws.specs.Sites.{callees}
 use Rattle.il_laws.specs.Splice.{Site, site_at, moved_block, passed, handed, copied, spliced, splice, value_return, value_returns}
 use Rattle.il_laws.specs.SpliceLaws.{ServesSite, added_size, InlinedSizes}
-use Rattle.il_laws.proofs.Programs.{routine_valid}
+use Rattle.il_core.proofs.Programs.{routine_valid}
 use Rattle.il_laws.proofs.Serving.{serves_itself}
 use Rattle.il_laws.proofs.SpliceBlocks as at
 use Rattle.il_laws.proofs.SpliceSites.{calls_site, site_is}

@@ -1,10 +1,10 @@
 -- Programs with clones added.
-use Rattle.std.specs.Prelude.{◌≡◌, ◌≢◌, ℕ, ◌^◌, ◌<◌, List, [], ◌∷◌, ◌++◌, length, Option, Some, None, ⊤}
+use Rattle.std.specs.Prelude.{◌≡◌, ◌≢◌, ℕ, ◌<◌, List, [], ◌∷◌, ◌++◌, length, Option, Some, None, ⊤}
 use Rattle.std.specs.List.{AllByRecursion}
 use Rattle.il_core.specs.declared.program.IlProgram.{IlProgram}
 use Rattle.il_core.specs.declared.shape.ShapeRow.{ShapeRow}
 use Rattle.il_core.specs.declared.shape.Shape.TheVariants as shape
-use Rattle.il_core.specs.Limits.{IsPid}
+use Rattle.il_core.specs.Limits.{IsPid, max_routines}
 use Rattle.il_core.specs.Program.{routine_at}
 use Rattle.il_core.specs.Routine.{RoutineParts}
 use Rattle.il_laws.specs.Clone.{Fixed, make_clone}
@@ -51,7 +51,7 @@ pub record CloneFits (p : IlProgram) (c : NewClone) : Type 0 where
   pub above : AllByRecursion (λ row. row.pid < c.pid) p.shapes
   pub pid : IsPid c.pid
   pub name : AllByRecursion (λ row. row.name ≢ c.name) p.shapes
-  pub room : length p.routines < 2 ^ 12
+  pub room : length p.routines < max_routines
 
 abbrev pub ClonesFit : IlProgram → List NewClone → Type 0
 ClonesFit p [] = ⊤

@@ -4,14 +4,9 @@ use Rattle.il_core.specs.declared.program.IlProgram.{IlProgram}
 use Rattle.il_core.specs.Routine.{RoutineParts}
 use Rattle.il_core.specs.Program.{routine_at, main_pid}
 use Rattle.il_core.specs.Valid.{IsProgram}
-use Rattle.il_core.specs.Meaning.{Run, il_run}
+use Rattle.il_core.specs.Meaning.{HasRun, il_run}
 use Rattle.il_laws.specs.Keeping.{Stands, MayFollow, with_each, with_routine}
 use Rattle.il_laws.specs.Serving.{Serves}
-
--- a run, on an input with so many turns
-pub record HasRun (p : IlProgram) (input : List ℕ) (turns : ℕ) : Type 0 where
-  pub run : Run
-  pub is : il_run p input turns ≡ Some run
 
 -- a valid program has a run
 abbrev pub ValidRuns : Type 0

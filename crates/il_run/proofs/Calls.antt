@@ -14,12 +14,12 @@ use Rattle.il_run.specs.declared.machine.Machine.{Machine}
 use Rattle.il_run.specs.declared.machine.Suspended.{Suspended}
 use Rattle.il_run.specs.declared.store.Store.{Store}
 use Rattle.il_run.specs.declared.tables.Tables.{Tables}
-use Rattle.il_run.specs.Blocks.{run_from, calls_of}
+use Rattle.il_core.specs.Places.{run_from, calls_of}
 use Rattle.il_run.specs.Plain.{frame_in, KeepsBelow}
 use Rattle.il_run.specs.Words.{window, arrays_in}
 use Rattle.il_run.specs.Machine.{routine_in, IsNext, IsTabled, IsPlace, Stacked, IsSound, frame_at, receive, resume, world_in, left, site_at}
 use Rattle.il_run.specs.Frames.{Enters, Leaves, Receives}
-use Rattle.il_run.proofs.Blocks.{call_from}
+use Rattle.il_core.proofs.Places.{call_from}
 use Rattle.il_run.proofs.Arms.{sets_below}
 use Rattle.il_run.proofs.Places.{run_instr}
 use Rattle.il_run.proofs.Moves.{Popped, stacked_pop, stacked_push, resume_same, resume_push, resume_end, reg_left}

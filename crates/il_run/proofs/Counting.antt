@@ -17,10 +17,10 @@ use Rattle.il_core.specs.Meaning.{MadeCall, sites_of}
 use Rattle.il_run.specs.declared.counts.Counts.{Counts}
 use Rattle.il_run.specs.declared.counter.Counter.{Counter}
 use Rattle.il_run.specs.Counts.{capped, how_many, entry_count, site_count, sites_of_blocks, counts_of, no_counts, raised, counted, HasShape, IsCounter, Counted, CountsMore, StillCounts}
-use Rattle.il_run.specs.Blocks.{sites_before}
+use Rattle.il_core.specs.Places.{sites_before}
 use Rattle.il_run.specs.Machine.{routine_in, block_in, site_at, IsSite}
-use Rattle.il_run.proofs.Blocks.{sites_take}
-use Rattle.il_run.proofs.Starting.{rising_at, rising_from_rising}
+use Rattle.il_core.proofs.Places.{sites_take}
+use Rattle.il_core.proofs.Found.{rising_at, rising_from_rising}
 
 capped_more : (n m : ℕ) → m ≡ 1 + n → capped (capped n + 1) ≡ capped m
 capped_more n m e = omega arith

@@ -5,7 +5,7 @@ use Rattle.std.specs.List.{AllByRecursion}
 use Rattle.std.proofs.lemmas.List.{take_more, take_all, get_or_append_left}
 use Rattle.il_core.specs.World.{each}
 use Rattle.il_run.specs.Words.{window}
-use Rattle.il_run.proofs.Places.{all_at}
+use Rattle.il_core.proofs.Found.{all_at}
 use Rattle.il_run.proofs.Words.{window_in, each_more, each_length}
 
 -- an argument's register lies among the caller's

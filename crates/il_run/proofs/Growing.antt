@@ -11,10 +11,10 @@ use Rattle.il_core.specs.Meaning.{received, Lengths, lengths, Next, Act, sites_o
 use Rattle.il_run.specs.declared.machine.Machine.{Machine}
 use Rattle.il_run.specs.declared.machine.Suspended.{Suspended}
 use Rattle.il_run.specs.declared.tables.Tables.{Tables}
-use Rattle.il_run.specs.Blocks.{sites_before, from_block, calls_of, backs_of, run_from}
+use Rattle.il_core.specs.Places.{sites_before, from_block, calls_of, backs_of, run_from}
 use Rattle.il_run.specs.Plain.{frame_in}
 use Rattle.il_run.specs.Machine.{routine_in, frame_at, resume, world_in, to_come}
-use Rattle.il_run.proofs.Bound.{Grows, After, Alike, CallsAlike, turn_alike, begin_alike, enter_alike, steps_alike, finish_alike, return_alike, exec_alike}
+use Rattle.il_core.proofs.Bound.{Grows, After, Alike, CallsAlike, turn_alike, begin_alike, enter_alike, steps_alike, finish_alike, return_alike, exec_alike}
 
 module _ {S : Type 0} (note : Recorder S) (p : IlProgram) where
   calls_like : (t : ℕ) (r : RoutineParts) → CallsAlike (λ (l : S). l) t (calls_of note p r) (calls_of note p r)

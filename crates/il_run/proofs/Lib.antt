@@ -1,14 +1,9 @@
 pub mod Arms
 pub mod Asking
-pub mod Blocks
-pub mod Bound
 pub mod Calls
 pub mod Counting
-pub mod Cover
-pub mod Done
 pub mod Entering
 pub mod Growing
-pub mod Logging
 pub mod Main
 pub mod Moves
 pub mod Naming
@@ -23,5 +18,4 @@ pub mod Starting
 pub mod Steps
 pub mod Streaming
 pub mod Tabling
-pub mod Valid
 pub mod Words

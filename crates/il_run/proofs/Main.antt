@@ -1,10 +1,11 @@
 -- What is to come from a program as it starts is the call of its `main`.
-use Rattle.std.proofs.Common.{◌≡◌, ℕ, suc, ◌+◌, ◌^◌, ◌<◌, List, [], length, get_or, true, refl, ap, subst, sym, ◌∙◌, arith, inl, inr}
+use Rattle.std.proofs.Common.{◌≡◌, ℕ, suc, ◌+◌, ◌<◌, List, [], length, get_or, true, refl, ap, subst, sym, ◌∙◌, arith, inl, inr}
 use Rattle.std.specs.declared.alloc.Global.{Global}
 use Rattle.std.specs.Prelude.{Vec, slice_index, sum, replicate, Option, Some}
 use Rattle.std.proofs.lemmas.Bool.{cases_lt}
 use Rattle.std.proofs.lemmas.List.{get_or_read, length-replicate}
 use mathlib.Core.Path.{fun_ext}
+use Rattle.il_core.specs.Limits.{max_pids}
 use Rattle.il_core.specs.declared.program.IlProgram.{IlProgram}
 use Rattle.il_core.specs.Routine.{RoutineParts}
 use Rattle.il_core.specs.Program.{routine_at, main_pid, initial_word}
@@ -16,15 +17,15 @@ use Rattle.il_run.specs.declared.machine.Machine.{Machine}
 use Rattle.il_run.specs.declared.machine.Suspended.{Suspended}
 use Rattle.il_run.specs.declared.store.Store.{Store}
 use Rattle.il_run.specs.declared.tables.Tables.{Tables}
-use Rattle.il_run.specs.Blocks.{run_from}
+use Rattle.il_core.specs.Places.{run_from}
 use Rattle.il_run.specs.Machine.{routine_in, IsTabled, Stacked, resume, world_in}
 use Rattle.il_run.specs.Plain.{frame_in}
 use Rattle.il_run.specs.Start.{HasWords, Starts}
 use Rattle.il_run.specs.Words.{window, arrays_in}
-use Rattle.il_run.proofs.Blocks.{exec_from}
-use Rattle.il_run.proofs.Naming.{main_shape}
+use Rattle.il_core.proofs.Places.{exec_from}
+use Rattle.il_core.proofs.Main.{main_shape}
 use Rattle.il_run.proofs.Places.{routine_valid}
-use Rattle.il_run.proofs.Valid.{callee_of, pid_small}
+use Rattle.il_core.proofs.Programs.{callee_of, pid_small}
 use Rattle.il_run.proofs.Words.{window_in, window_out, element_in, element_out, zeros}
 
 zero_window : (k n : ℕ) → window (replicate k 0) 0 n ≡ (λ x. 0)
@@ -36,7 +37,7 @@ zero_arrays k lens = fun_ext (λ a. fun_ext (λ i. elim (cases_lt i (slice_index
 module _ (p : IlProgram) (valid : IsProgram p) (t : Tables) (tabled : IsTabled p t) where
   -- where `main` stands
   pub record MainAt (i : ℕ) : Type 0 where
-    pub small : main_pid p.shapes < 2 ^ 17
+    pub small : main_pid p.shapes < max_pids
     pub within : i < length p.routines
     pub found : routine_at p.routines (main_pid p.shapes) ≡ Some (routine_in p i)
     pub blocks : 0 < length (routine_in p i).blocks
@@ -53,7 +54,7 @@ module _ (p : IlProgram) (valid : IsProgram p) (t : Tables) (tabled : IsTabled p
         blocks = (routine_valid p valid i lt).some_block;
       }
 
-  pub main_small : main_pid p.shapes < 2 ^ 17
+  pub main_small : main_pid p.shapes < max_pids
   main_small = (main_is (slice_index t.position.items (main_pid p.shapes)) refl).small
 
   pub main_at : (i q : ℕ) → q ≡ main_pid p.shapes → i ≡ get_or t.position.items q i → MainAt i

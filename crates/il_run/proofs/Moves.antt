@@ -13,12 +13,12 @@ use Rattle.il_run.specs.declared.machine.Machine.{Machine}
 use Rattle.il_run.specs.declared.machine.Suspended.{Suspended}
 use Rattle.il_run.specs.declared.store.Store.{Store}
 use Rattle.il_run.specs.declared.tables.Tables.{Tables}
-use Rattle.il_run.specs.Blocks.{run_from, calls_of, backs_of}
+use Rattle.il_core.specs.Places.{run_from, calls_of, backs_of}
 use Rattle.il_run.specs.Plain.{Data, IsPlain, plain, frame_in, data_in, lengths_of, KeepsBelow, Executes, SetsReg}
 use Rattle.il_run.specs.Words.{arrays_in}
 use Rattle.il_run.specs.Machine.{routine_in, block_in, IsTabled, IsSuspended, Stacked, IsSound, frame_at, receive, resume, world_in, left, IsNext, site_at}
 use Rattle.il_run.proofs.Arms.{sets_data, sets_below, reg_is}
-use Rattle.il_run.proofs.Blocks.{back_from}
+use Rattle.il_core.proofs.Places.{back_from}
 use Rattle.il_run.proofs.Places.{run_instr, run_finish, later, later_is, with_data, plain_step, lengths_are}
 use Rattle.il_run.proofs.Words.{window_below, arrays_below}
 

@@ -1,23 +1,11 @@
--- The PID of the name `main`.
-use Rattle.std.proofs.Common.{◌≡◌, ℕ, zero, suc, ◌+◌, ◌<◌, ◌≤◌, List, [], ◌∷◌, length, drop, get_or, Bool, true, false, ap, sym, ◌∙◌, arith, drop-cons, inl, inr}
-use Rattle.std.specs.Prelude.{nat_eq, if◌then◌else◌, codes, Some, ◌≢◌}
+-- The PID of the name `main`, found by going through the rows.
+use Rattle.std.proofs.Common.{◌≡◌, ℕ, suc, ◌+◌, ◌<◌, ◌≤◌, List, ◌∷◌, length, drop, get_or, true, false, ap, sym, ◌∙◌, arith, drop-cons}
+use Rattle.std.specs.Prelude.{nat_eq, codes}
 use Rattle.std.specs.Cmp.Lexicographic.{pointwise}
-use Rattle.std.proofs.lemmas.Bool.{cases_Bool}
 use Rattle.std.proofs.lemmas.List.{drop_all}
-use Rattle.std.proofs.lemmas.Slice.Eq.{bytes_eq-Decides}
-use Rattle.il_core.specs.declared.program.IlProgram.{IlProgram}
 use Rattle.il_core.specs.declared.shape.ShapeRow.{ShapeRow}
-use Rattle.il_core.specs.declared.shape.Shape.TheVariants as shape
-use Rattle.il_core.specs.Program.{pid_named, main_pid, shape_at, shape_of_row}
-use Rattle.il_core.specs.Valid.{IsProgram, HasEachNameOnce}
-use Rattle.il_run.proofs.Places.{all_at}
-use Rattle.il_run.proofs.Starting.{found_at}
-
-row_taken : (name : List ℕ) (row : ShapeRow) (rows : List ShapeRow) → pointwise nat_eq row.name name ≡ true → pid_named name (row ∷ rows) ≡ row.pid
-row_taken name row rows e = ap (λ (b : Bool). if b then row.pid else pid_named name rows) e
-
-row_passed : (name : List ℕ) (row : ShapeRow) (rows : List ShapeRow) → pointwise nat_eq row.name name ≡ false → pid_named name (row ∷ rows) ≡ pid_named name rows
-row_passed name row rows e = ap (λ (b : Bool). if b then row.pid else pid_named name rows) e
+use Rattle.il_core.specs.Program.{main_pid}
+use Rattle.il_core.proofs.Main.{row_taken, row_passed}
 
 row_here : (rows : List ShapeRow) (i : ℕ) (row : ShapeRow) → i < length rows → row ≡ get_or rows i row → drop i rows ≡ row ∷ drop (i + 1) rows
 row_here rows i row lt read = drop-cons rows i row lt ∙ ap (λ (y : ShapeRow). y ∷ drop (suc i) rows) (sym read) ∙ ap (λ (n : ℕ). row ∷ drop n rows) (let e : suc i ≡ i + 1 = omega arith in e)
@@ -30,28 +18,3 @@ main_passed rows all i row lt read h e = sym (row_passed (codes "main") row (dro
 
 pub main_none : (rows all : List ShapeRow) (i : ℕ) → length rows ≤ i → main_pid (drop i rows) ≡ main_pid all → 0 ≡ main_pid all
 main_none rows all i le h = sym (ap main_pid (drop_all i rows le)) ∙ h
-
--- the one row of a name gives its PID
-once : (name : List ℕ) (rows : List ShapeRow) (k : ℕ) (row : ShapeRow) → HasEachNameOnce rows → k < length rows → get_or rows k row ≡ row → row.name ≡ name → pid_named name rows ≡ row.pid
-once name [] k row h lt is e = absurd (omega arith)
-once name (x ∷ xs) zero row h lt is e = row_taken name x xs ((bytes_eq-Decides x.name name).1 (ap (λ (r : ShapeRow). r.name) is ∙ e)) ∙ ap (λ (r : ShapeRow). r.pid) is
-once name (x ∷ xs) (suc k) row h lt is e =
-    let apart : (get_or xs k row).name ≢ x.name = all_at (λ (other : ShapeRow). other.name ≢ x.name) xs k row h.0 (omega arith) in
-    let other : pointwise nat_eq x.name name ≡ false = elim (cases_Bool (pointwise nat_eq x.name name)) [
-      | inl h1 ↦ absurd (apart (ap (λ (r : ShapeRow). r.name) is ∙ e ∙ sym ((bytes_eq-Decides x.name name).0 h1)))
-      | inr h1 ↦ h1
-    ] in
-    row_passed name x xs other ∙ once name xs k row h.1 (omega arith) is e
-
--- a valid program has its `main`
-pub main_shape : (p : IlProgram) → IsProgram p → shape_at p.shapes (main_pid p.shapes) ≡ Some (shape.Routine 0 true)
-main_shape p valid =
-    let row = valid.main.0 in
-    let k = valid.main.1.0 in
-    let lt = valid.main.1.1 in
-    let is = valid.main.1.2 in
-    let pid : main_pid p.shapes ≡ row.pid = once (codes "main") p.shapes k row valid.names lt is valid.main.2 in
-    ap (λ (q : ℕ). shape_at p.shapes q) (pid ∙ ap (λ (r : ShapeRow). r.pid) (sym is))
-    ∙ ap shape_of_row (found_at (λ (r : ShapeRow). r.pid) p.shapes k row valid.rows lt)
-    ∙ ap (λ (r : ShapeRow). Some r.shape) is
-    ∙ ap Some valid.main.3

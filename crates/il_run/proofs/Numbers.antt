@@ -13,11 +13,11 @@ use Rattle.il_core.specs.Routine.{RoutineParts}
 use Rattle.il_core.specs.Size.{block_size, blocks_size}
 use Rattle.il_core.specs.Meaning.{sites_in, sites_of}
 use Rattle.il_run.specs.declared.numbering.Numbering.{Numbering}
-use Rattle.il_run.specs.Blocks.{sites_before}
+use Rattle.il_core.specs.Places.{sites_before}
 use Rattle.il_run.specs.declared.counter.Counter.{Counter}
 use Rattle.il_run.specs.Counts.{HasShape, IsCounter, IsNumbered, AreNumbered, numbers_in, sites_of_blocks}
 use Rattle.il_run.specs.Machine.{routine_of}
-use Rattle.il_run.proofs.Blocks.{sites_take}
+use Rattle.il_core.proofs.Places.{sites_take}
 
 drop_read : {X : Type 0} (xs : List X) (i : ℕ) (x : X) → i < length xs → x ≡ get_or xs i x → drop i xs ≡ x ∷ drop (suc i) xs
 drop_read xs i x lt is = drop-cons xs i x lt ∙ ap (λ y. y ∷ drop (suc i) xs) (sym is)

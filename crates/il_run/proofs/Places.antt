@@ -19,11 +19,12 @@ use Rattle.il_core.specs.Size.{block_size, blocks_size}
 use Rattle.il_core.specs.Valid.{IsProgram, IsValid, AreValidBlocks, IsValidInstr, IsValidEnd}
 use Rattle.il_core.specs.World.{World, Outcome, Trapped, ended, with_word}
 use Rattle.il_core.specs.Meaning.{Frame, with_reg, Lengths, lengths, Next, Act, step, sites_of, finish, enter, Recorder}
-use Rattle.il_run.specs.Blocks.{sites_before, from_block, calls_of, backs_of, run_from}
+use Rattle.il_core.specs.Places.{sites_before, from_block, calls_of, backs_of, run_from}
 use Rattle.il_run.specs.Plain.{Data, gets, plain, lengths_of, IsPlain}
 use Rattle.il_run.specs.Machine.{routine_in, block_in, IsTabled, site_at, work}
 use Rattle.il_run.specs.declared.tables.Tables.{Tables}
-use Rattle.il_run.proofs.Blocks.{go_on, run_step, run_end}
+use Rattle.il_core.proofs.Found.{all_at}
+use Rattle.il_core.proofs.Places.{go_on, run_step, run_end}
 
 -- the blocks from one on begin with it
 pub block_here : (r : RoutineParts) (b : ℕ) → b < length r.blocks → drop b r.blocks ≡ block_in r b ∷ drop (suc b) r.blocks
@@ -107,12 +108,6 @@ work_whole r b = omega (arith, less_blocks r.blocks b)
 
 pub work_some : (r : RoutineParts) (b j : ℕ) → b < length r.blocks → j ≤ length (block_in r b).instrs → 0 < work r b j
 work_some r b j lt le = omega (arith, work_here r b lt)
-
--- an element of a list of which all are as wanted
-pub all_at : {X : Type 0} (P : X → Type 0) (xs : List X) (i : ℕ) (d : X) → AllByRecursion P xs → i < length xs → P (get_or xs i d)
-all_at P [] i d all lt = absurd (omega arith)
-all_at P (x ∷ xs) zero d all lt = all.0
-all_at P (x ∷ xs) (suc i) d all lt = all_at P xs i d all.1 (omega arith)
 
 pub record ValidBlock (rows : List ShapeRow) (r : RoutineParts) (b : ℕ) (x : Block) : Type 0 where
   pub instrs : AllByRecursion (IsValidInstr rows r.regs (length r.arrays)) x.instrs

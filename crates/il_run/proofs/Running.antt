@@ -16,14 +16,14 @@ use Rattle.il_run.specs.Counts.{CountsMore, counts_of, no_counts}
 use Rattle.il_run.specs.Run.{AreCounted, EndsAs, IfTold, Round, LastRound, StopsWithin, AsksFor, FailedAsk, Uses}
 use Rattle.il_run.specs.declared.counter.Counter.{Counter}
 use Rattle.il_run.proofs.Counting.{none_counted}
-use Rattle.il_run.proofs.Logging.{run_noted}
+use Rattle.il_core.proofs.Logging.{run_noted}
 use Rattle.il_run.specs.Streams.{GainsFront, ahead}
 use Rattle.il_run.specs.declared.input.Ahead.{Ahead}
 use Rattle.std.proofs.lemmas.Bool.{false≢true}
 use Rattle.std.proofs.lemmas.Option.{none-some, same_Some}
-use Rattle.il_run.proofs.Bound.{Grows}
+use Rattle.il_core.proofs.Bound.{Grows}
 use Rattle.il_core.specs.Valid.{IsProgram}
-use Rattle.il_run.proofs.Done.{has_run}
+use Rattle.il_core.proofs.Running.{has_run}
 use Rattle.il_run.proofs.Growing.{output_grows}
 
 -- the sink took more

@@ -1,5 +1,5 @@
 -- The counts at a small program.
-use Rattle.std.proofs.Common.{◌≡◌, ℕ, List, [], ◌∷◌, refl, true}
+use Rattle.std.proofs.Common.{◌≡◌, [], ◌∷◌, refl, true}
 use Rattle.std.specs.Prelude.{codes, Some}
 use Rattle.il_core.specs.declared.instr.Instr.TheVariants.{Call}
 use Rattle.il_core.specs.declared.instr.End.TheVariants.{Return}

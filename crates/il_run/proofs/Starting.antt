@@ -2,7 +2,6 @@
 use Rattle.std.proofs.Common.{◌≡◌, ℕ, zero, suc, ◌+◌, ◌-◌, ◌<◌, ◌≤◌, List, [], ◌∷◌, length, drop, get_or, map, refl, ap, subst, sym, ◌∙◌, arith, inl, inr, drop-cons, length-set, get_or-set_same, get_or-set_other}
 use Rattle.std.specs.Prelude.{slice_index, slice_set, replicate, Option, Some, None}
 use Rattle.std.specs.List.{AllByRecursion}
-use Rattle.il_run.proofs.Places.{all_at}
 use Rattle.std.proofs.lemmas.Bool.{cases_eq, cases_lt, cases_order}
 use Rattle.std.proofs.lemmas.List.{drop_all, get_or_past, length-map}
 use Rattle.hlo_num.specs.declared.word.Word.{Word}
@@ -11,27 +10,10 @@ use Rattle.il_core.specs.Program.{found, object_at, word_at_start, words_in, wor
 use Rattle.il_core.specs.Shapes.{IsRising, IsRisingFrom}
 use Rattle.il_run.specs.Start.{Copies, HasWords}
 use Rattle.il_run.specs.Words.{arrays_in, start_of}
-use Rattle.il_run.proofs.Valid.{found_here, found_there}
+use Rattle.il_core.proofs.Found.{all_at, found_at, found_here, found_there, rising_from_rising}
 use Rattle.il_run.proofs.Words.{element_in, element_out, before_later, after_earlier, named, zeros}
 
 module _ {X : Type 0} (number : X → ℕ) where
-  pub rising_at : (n : ℕ) (xs : List X) (i : ℕ) (d : X) → IsRisingFrom number n xs → i < length xs → n < number (get_or xs i d)
-  rising_at n [] i d h lt = absurd (omega arith)
-  rising_at n (x ∷ xs) zero d h lt = h.0
-  rising_at n (x ∷ xs) (suc i) d h lt = let m = rising_at (number x) xs i d h.1 (omega arith) in let l : n < number x = h.0 in omega (arith, m)
-
-  pub rising_from_rising : (n : ℕ) (xs : List X) → IsRisingFrom number n xs → IsRising number xs
-  rising_from_rising n [] h = tt
-  rising_from_rising n (x ∷ xs) h = h.1
-
-  -- what stands at a place is what is found by its number
-  pub found_at : (xs : List X) (i : ℕ) (d : X) → IsRising number xs → i < length xs → found number (number (get_or xs i d)) xs ≡ Some (get_or xs i d)
-  found_at [] i d h lt = absurd (omega arith)
-  found_at (x ∷ xs) zero d h lt = found_here number (number x) x xs refl
-  found_at (x ∷ xs) (suc i) d h lt =
-      let above = rising_at (number x) xs i d h (omega arith) in
-      found_there number (number (get_or xs i d)) x xs (λ e. omega (arith, above)) ∙ found_at xs i d (rising_from_rising (number x) xs h) (omega arith)
-
   none_below : (n q : ℕ) (xs : List X) → IsRisingFrom number n xs → q ≤ n → found number q xs ≡ None
   none_below n q [] h le = refl
   none_below n q (x ∷ xs) h le = let l : n < number x = h.0 in found_there number q x xs (λ e. omega arith) ∙ none_below (number x) q xs h.1 (omega arith)
@@ -39,7 +21,7 @@ module _ {X : Type 0} (number : X → ℕ) where
   rising_behind : (xs : List X) (i : ℕ) (d : X) → IsRising number xs → i < length xs → IsRisingFrom number (number (get_or xs i d)) (drop (suc i) xs)
   rising_behind [] i d h lt = absurd (omega arith)
   rising_behind (x ∷ xs) zero d h lt = h
-  rising_behind (x ∷ xs) (suc i) d h lt = rising_behind xs i d (rising_from_rising (number x) xs h) (omega arith)
+  rising_behind (x ∷ xs) (suc i) d h lt = rising_behind xs i d (rising_from_rising number (number x) xs h) (omega arith)
 
   -- and it isn't found again behind it
   pub none_behind : (xs : List X) (i : ℕ) (d : X) → IsRising number xs → i < length xs → found number (number (get_or xs i d)) (drop (suc i) xs) ≡ None

@@ -1,10 +1,11 @@
 -- Each step leads to a sound machine with less fuel.
-use Rattle.std.proofs.Common.{◌≡◌, ℕ, zero, suc, ◌+◌, ◌-◌, ◌^◌, ◌<◌, ◌≤◌, List, [], ◌∷◌, ◌++◌, length, drop, get_or, refl, ap, subst, sym, ◌∙◌, arith}
+use Rattle.std.proofs.Common.{◌≡◌, ℕ, zero, suc, ◌+◌, ◌-◌, ◌<◌, ◌≤◌, List, [], ◌∷◌, ◌++◌, length, drop, get_or, refl, ap, subst, sym, ◌∙◌, arith}
 use Rattle.std.specs.declared.alloc.Global.{Global}
 use Rattle.std.specs.Prelude.{Vec, slice_index, sum, sum_by, Option, Some, None, Ok, Err, MatchOption, ⊤}
 use Rattle.std.proofs.lemmas.List.{get_or_read}
 use Rattle.std.proofs.lemmas.List.Sums.{sum_by_push}
 use Rattle.hlo_num.specs.declared.word.Trap.{Trap}
+use Rattle.il_core.specs.Limits.{max_pids, max_size}
 use Rattle.il_core.specs.declared.instr.Instr.{Instr}
 use Rattle.il_core.specs.declared.instr.Instr.TheVariants.{Const, Move, Conv, Bin, Get, Set, GetX, SetX, GetA, SetA, Clear, Turn, Call, GetChar, PutChar}
 use Rattle.il_core.specs.declared.instr.End.{End}
@@ -16,7 +17,8 @@ use Rattle.il_core.specs.Program.{routine_at}
 use Rattle.il_core.specs.Valid.{IsProgram, IsRegIfSome, IsValidInstr, IsValidEnd, NamesObject, is_wanted}
 use Rattle.std.specs.List.{AllByRecursion}
 use Rattle.il_run.specs.Frames.{Enters, Leaves, Receives}
-use Rattle.il_run.proofs.Valid.{found_number, object_of, callee_fits, pid_small}
+use Rattle.il_core.proofs.Found.{found_number}
+use Rattle.il_core.proofs.Programs.{object_of, callee_fits, pid_small}
 use Rattle.il_core.specs.World.{World, Outcome, Returns, Ends, each, Exit, Trapped, OutOfTurns, first_byte, other_bytes, low_byte}
 use Rattle.il_core.specs.Meaning.{run_of, log_of, returned, MadeCall, add_call}
 use Rattle.il_run.specs.declared.machine.Machine.{Machine}
@@ -90,7 +92,7 @@ module _ (p : IlProgram) (t : Tables) (tabled : IsTabled p t) (old : Machine) (s
   call_ends dest q count args next none = ends_by _ (λ input output calls. call_over add_call p t tabled old sound dest q count args input output calls next none)
 
   pub call_moves : (dest : Option ℕ) (q count : ℕ) (args : List ℕ) (callee : ℕ) (s : Store) (stack : Vec Suspended Global) (vs : List ℕ) → IsNext p old (Call dest q count args) → 0 < old.turns
-      → IsRegIfSome (routine_in p old.routine).regs dest → routine_at p.routines q ≡ Some (routine_in p callee) → callee < length p.routines → 0 < length (routine_in p callee).blocks → blocks_size (routine_in p callee).blocks ≤ 2 ^ 16
+      → IsRegIfSome (routine_in p old.routine).regs dest → routine_at p.routines q ≡ Some (routine_in p callee) → callee < length p.routines → 0 < length (routine_in p callee).blocks → blocks_size (routine_in p callee).blocks ≤ max_size
       → vs ≡ each (frame_in old.store (routine_in p old.routine)).regs args → length vs ≤ (routine_in p callee).params → length vs ≤ (routine_in p callee).regs
       → Enters old.store s vs (routine_in p callee).regs (sum (routine_in p callee).arrays)
       → stack.items ≡ old.stack.items ++ waiting {S = List MadeCall} add_call p t tabled old sound dest q count args ∷ []
@@ -140,7 +142,7 @@ module _ (p : IlProgram) (t : Tables) (tabled : IsTabled p t) (old : Machine) (s
       → old.block < v → v < length (routine_in p old.routine).blocks → Moved p t old (record old { block = v; instr = 0 }) move.Next
   branch_falls x u v c here ltx is none less lt = jumped v less lt (λ input output calls. branch_zero add_call p t tabled old sound x u v c input output calls here ltx is none less)
 
-  pub loop_moves : (u : ℕ) → AtEnd {S = List MadeCall} add_call p t tabled old sound (ends.Loop u) → 0 < old.turns → u < length (routine_in p old.routine).blocks → blocks_size (routine_in p old.routine).blocks ≤ 2 ^ 16
+  pub loop_moves : (u : ℕ) → AtEnd {S = List MadeCall} add_call p t tabled old sound (ends.Loop u) → 0 < old.turns → u < length (routine_in p old.routine).blocks → blocks_size (routine_in p old.routine).blocks ≤ max_size
       → Moved p t old (record old { block = u; instr = 0; turns = old.turns - 1 }) move.Next
   loop_moves u here some lt few = record {
     sound = moved_sound {S = List MadeCall} add_call p t tabled old sound old.store same_below u 0 (old.turns - 1) (later_place u lt);
@@ -241,7 +243,7 @@ module _ (p : IlProgram) (valid : IsProgram p) (t : Tables) (tabled : IsTabled p
 
   -- what a call needs of its callee, which stands at position i
   pub record Target (dest : Option ℕ) (q : ℕ) (args : List ℕ) (i : ℕ) : Type 0 where
-    pub small : q < 2 ^ 17
+    pub small : q < max_pids
     pub within : i < length p.routines
     pub found : routine_at p.routines q ≡ Some (routine_in p i)
     pub taken : length args ≤ (routine_in p i).params

@@ -1,10 +1,11 @@
 -- The tables, one routine or object after another, from the last one on.
-use Rattle.std.proofs.Common.{◌≡◌, ℕ, suc, ◌+◌, ◌-◌, ◌^◌, ◌<◌, ◌≤◌, List, [], ◌∷◌, ◌++◌, length, drop, get_or, ap, subst, sym, ◌∙◌, arith, inl, inr, drop-cons, get_or-set_same, get_or-set_other}
+use Rattle.std.proofs.Common.{◌≡◌, ℕ, suc, ◌+◌, ◌-◌, ◌<◌, ◌≤◌, List, [], ◌∷◌, ◌++◌, length, drop, get_or, ap, subst, sym, ◌∙◌, arith, inl, inr, drop-cons, get_or-set_same, get_or-set_other}
 use Rattle.std.specs.Prelude.{slice_index, slice_set, replicate, Some}
 use Rattle.std.specs.List.{AllByRecursion}
 use Rattle.std.proofs.lemmas.Bool.{cases_eq}
 use Rattle.std.proofs.lemmas.List.{drop_all, get_or_read, get_or_append_left, get_or_push}
 use Rattle.std.proofs.lemmas.Option.{none-some, same_Some}
+use Rattle.il_core.specs.Limits.{max_pids}
 use Rattle.il_core.specs.Object.{ObjectParts}
 use Rattle.il_core.specs.Routine.{RoutineParts}
 use Rattle.il_core.specs.Program.{routine_at, words_in, words_of}
@@ -12,8 +13,8 @@ use Rattle.il_run.specs.declared.layout.Layout.{Layout}
 use Rattle.il_run.specs.Machine.{routine_of}
 use Rattle.il_run.specs.Tables.{HasPositions, HasSizes}
 use Rattle.il_run.specs.Words.{AreStarts}
-use Rattle.il_run.proofs.Places.{all_at}
-use Rattle.il_run.proofs.Valid.{found_here, found_there}
+use Rattle.il_core.proofs.Found.{all_at}
+use Rattle.il_core.proofs.Found.{found_here, found_there}
 use Rattle.il_run.proofs.Words.{zeros}
 
 -- at the end of the list there is nothing to find
@@ -71,8 +72,8 @@ sizes_step os x sizes i pid words some le read is isw small h =
     (subst (λ (n : ℕ). HasSizes os (i - 1) (slice_set sizes x.pid n)) (sym isw)
     (sizes_more os x sizes (i - 1) (omega arith) read (omega arith) (subst (λ (n : ℕ). HasSizes os n sizes) (omega arith) h)))
 
-pub small_at : (os : List ObjectParts) (x : ObjectParts) (i : ℕ) → AllByRecursion (λ o. o.pid < 2 ^ 17) os → i < length os → x ≡ get_or os i x → x.pid < 2 ^ 17
-small_at os x i all lt read = subst (λ (o : ObjectParts). o.pid < 2 ^ 17) (sym read) (all_at (λ (o : ObjectParts). o.pid < 2 ^ 17) os i x all lt)
+pub small_at : (os : List ObjectParts) (x : ObjectParts) (i : ℕ) → AllByRecursion (λ o. o.pid < max_pids) os → i < length os → x ≡ get_or os i x → x.pid < max_pids
+small_at os x i all lt read = subst (λ (o : ObjectParts). o.pid < max_pids) (sym read) (all_at (λ (o : ObjectParts). o.pid < max_pids) os i x all lt)
 
 -- the layouts of the first routines
 pub record LayoutsTo (rs : List RoutineParts) (n : ℕ) (layouts : List Layout) : Type 0 where

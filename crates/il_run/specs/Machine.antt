@@ -1,5 +1,6 @@
 -- What is still to come from a running program.
 use Rattle.std.specs.Prelude.{◌≡◌, ℕ, suc, ◌+◌, ◌-◌, ◌*◌, ◌^◌, ◌<◌, ◌≤◌, ◌++◌, false, List, [], ◌∷◌, length, take, drop, sum, sum_by, slice_index, slice_index_or, Option, Some}
+use Rattle.il_core.specs.Limits.{max_pids}
 use Rattle.il_core.specs.declared.instr.Block.{Block}
 use Rattle.il_core.specs.declared.instr.Instr.{Instr}
 use Rattle.il_core.specs.declared.instr.Instr.TheVariants.{GetChar}
@@ -21,7 +22,7 @@ use Rattle.il_run.specs.declared.machine.Suspended.{Suspended}
 use Rattle.il_run.specs.declared.machine.Machine.{Machine}
 use Rattle.il_run.specs.declared.machine.Move.{Move}
 use Rattle.il_run.specs.declared.machine.Move.TheVariants.{Next, Called, Get, Put, End}
-use Rattle.il_run.specs.Blocks.{run_from, sites_before}
+use Rattle.il_core.specs.Places.{run_from, sites_before}
 use Rattle.il_run.specs.Plain.{frame_in, Holds, SetsReg}
 use Rattle.il_run.specs.Words.{window, arrays_in, AreStarts}
 
@@ -43,7 +44,7 @@ block_in r b = slice_index_or r.blocks b (record { instrs = []; end = ends.Exit 
 
 -- the tables are the program's
 pub record IsTabled (p : IlProgram) (t : Tables) : Type 0 where
-  pub pids : length t.position.items ≡ 2 ^ 17
+  pub pids : length t.position.items ≡ max_pids
   pub position : (q : ℕ) (r : RoutineParts) → routine_at p.routines q ≡ Some r → (slice_index t.position.items q < length p.routines) × (routine_in p (slice_index t.position.items q) ≡ r)
   pub count : length t.arrays.items ≡ length p.routines
   pub arrays : (i : ℕ) (l : Layout) → i < length p.routines → l ≡ slice_index_or t.arrays.items i l → (l.sizes.items ≡ (routine_in p i).arrays) × AreStarts l.sizes.items l.starts.items

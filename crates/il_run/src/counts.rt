@@ -1,5 +1,6 @@
 //! The number of calls.
 ghost use Rattle.std.specs.Prelude.{◌≡◌, [], ◌^◌, ◌<◌, ◌≤◌, IfOk, List, length, slice_index_or, map, replicate, ℕ};
+ghost use Rattle.il_core.specs.Limits.{max_size};
 ghost use Rattle.il_core.specs.Meaning.{sites_in, sites_of};
 ghost use Rattle.il_core.specs.Routine.{RoutineParts};
 ghost use Rattle.il_core.specs.Size.{blocks_size};
@@ -85,7 +86,7 @@ fn no_sites(alloc: Global, routines: &[Routine]) -> Result<Vec<Seq<u32>>, AllocE
 
 /// How many calls some blocks have.
 fn sites_in_blocks(blocks: &[Block]) -> usize
-    requires { blocks_size blocks.now ≤ 2 ^ 16 }
+    requires { blocks_size blocks.now ≤ max_size }
     ensures { result ≡ sites_of_blocks blocks.now }
 {
     let mut count = 0;

@@ -1,6 +1,7 @@
 //! Arrays that stand side by side.
 ghost use Rattle.std.specs.Prelude.{◌≡◌, ◌+◌, ◌^◌, ◌<◌, ◌≤◌, IfOk, MatchResult, length, sum, slice_index};
 ghost use Rattle.hlo_num.specs.declared.word.Trap.TheVariants.{Index};
+ghost use Rattle.il_core.specs.Limits.{max_pids};
 ghost use Rattle.il_run.specs.Words.{AreStarts, start_of};
 
 use hlo_num::Trap;
@@ -17,7 +18,7 @@ pub struct Layout {
 impl Layout {
     /// The layout of arrays of these lengths, in time linear in their number.
     pub fn new(alloc: Global, sizes: Vec<u32>) -> Result<Layout, AllocError>
-        requires { length sizes.items ≤ 2 ^ 17 }
+        requires { length sizes.items ≤ max_pids }
         ensures sizes { IfOk result (λ l. l.sizes.items ≡ sizes.items) }
         ensures starts { IfOk result (λ l. AreStarts sizes.items l.starts.items) }
     {
@@ -52,7 +53,7 @@ impl Layout {
 }
 
 fn starts_of(alloc: Global, sizes: &[u32]) -> Result<Vec<usize>, AllocError>
-    requires { length sizes.now ≤ 2 ^ 17 }
+    requires { length sizes.now ≤ max_pids }
     ensures { IfOk result (λ v. AreStarts sizes.now v.items) }
 {
     let mut starts = Vec::with_capacity(alloc, sizes.len() + 1)?;

@@ -1,5 +1,6 @@
 //! A running program, step by step.
 ghost use Rattle.std.specs.Prelude.{◌≡◌, ◌^◌, ◌<◌, ◌≤◌, IfOk, length};
+ghost use Rattle.il_core.specs.Limits.{max_size};
 ghost use Rattle.il_core.specs.Size.{blocks_size};
 ghost use Rattle.il_core.specs.Valid.{IsProgram};
 ghost use Rattle.il_run.specs.Machine.{IsNext, IsSound, IsTabled, Moved, Returning, block_in, routine_in};
@@ -212,7 +213,7 @@ impl Machine {
         requires tabled { IsTabled p.now t.now }
         requires sound { IsSound p.now t.now self.old }
         requires routine { routine.now ≡ routine_in p.now self.old.routine }
-        requires few { blocks_size routine.now.blocks ≤ 2 ^ 16 }
+        requires few { blocks_size routine.now.blocks ≤ max_size }
         requires done { length (block_in (routine_in p.now self.old.routine) self.old.block).instrs ≤ self.old.instr }
         requires end { end.now ≡ (block_in (routine_in p.now self.old.routine) self.old.block).end }
         ensures { Moved p.now t.now self.old self.new result }

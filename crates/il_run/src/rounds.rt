@@ -37,7 +37,7 @@ use std::mem;
 /// fault nothing is said of them but that there is one for each routine and site.
 ///
 /// It takes time in proportion to the instructions, plus the registers and the elements of each call,
-/// and memory for the objects, the calls on their way, and some words for each of 131,072 PIDs. Where
+/// and memory for the objects, the calls on their way, and some words for each PID that there can be. Where
 /// calls are counted, it takes time and memory for the program's size once, and constant time a call.
 pub fn run<I: Source, O: Sink>(
     alloc: Global,

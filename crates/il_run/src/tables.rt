@@ -1,13 +1,14 @@
 //! What is looked up by number while a program runs.
 ghost use Rattle.std.specs.Prelude.{◌≡◌, ◌^◌, ◌<◌, ◌≤◌, IfOk, length};
 ghost use Rattle.std.specs.List.{AllByRecursion};
+ghost use Rattle.il_core.specs.Limits.{max_pids, max_routines};
 ghost use Rattle.il_core.specs.Valid.{IsProgram};
 ghost use Rattle.il_run.specs.Machine.{IsTabled};
 ghost use Rattle.il_run.specs.Tables.{AreLayouts, HasPositions, HasSizes};
 
 use crate::layout::Layout;
 use crate::store::zeros;
-use il_core::{IlProgram, Object, Routine};
+use il_core::{IlProgram, Object, Routine, limits};
 use std::alloc::{AllocError, Global};
 
 /// Where each routine stands in its program, by PID; each routine's local arrays; and the objects,
@@ -18,9 +19,6 @@ pub struct Tables {
     pub arrays: Vec<Layout>,
     pub objects: Layout,
 }
-
-/// PIDs are below this number.
-const PIDS: usize = 131_072;
 
 impl Tables {
     /// The tables of a program, in time and memory linear in the PIDs, the routines, their arrays and
@@ -44,11 +42,11 @@ impl Tables {
 
 /// The position of each routine, by PID. Of two with one PID it is the first one's.
 fn positions(alloc: Global, routines: &[Routine]) -> Result<Vec<u32>, AllocError>
-    requires { length routines.now ≤ 2 ^ 12 }
-    ensures count { IfOk result (λ v. length v.items ≡ 2 ^ 17) }
+    requires { length routines.now ≤ max_routines }
+    ensures count { IfOk result (λ v. length v.items ≡ max_pids) }
     ensures each { IfOk result (λ v. HasPositions routines.now 0 v.items) }
 {
-    let mut position = zeros(alloc, PIDS)?;
+    let mut position = zeros(alloc, limits::PIDS as usize)?;
     let mut i = routines.len();
     'back: while 0 < i {
         i -= 1;
@@ -72,11 +70,11 @@ fn layouts(alloc: Global, routines: &[Routine]) -> Result<Vec<Layout>, AllocErro
 
 /// How many words each object has, by PID.
 fn sizes_of(alloc: Global, objects: &[Object]) -> Result<Vec<u32>, AllocError>
-    requires { AllByRecursion (λ o. o.pid < 2 ^ 17) objects.now }
-    ensures count { IfOk result (λ v. length v.items ≡ 2 ^ 17) }
+    requires { AllByRecursion (λ o. o.pid < max_pids) objects.now }
+    ensures count { IfOk result (λ v. length v.items ≡ max_pids) }
     ensures each { IfOk result (λ v. HasSizes objects.now 0 v.items) }
 {
-    let mut sizes = zeros(alloc, PIDS)?;
+    let mut sizes = zeros(alloc, limits::PIDS as usize)?;
     let mut i = objects.len();
     'back: while 0 < i {
         i -= 1;

@@ -5,7 +5,7 @@ use Rattle.std.specs.List.{AllByRecursion}
 use Rattle.std.proofs.lemmas.List.Sums.{sum_by-cons}
 use Rattle.il_core.specs.declared.instr.Block.{Block}
 use Rattle.il_core.specs.declared.instr.Instr.{Instr}
-use Rattle.il_core.specs.Limits.{IsBlock, IsInstr}
+use Rattle.il_core.specs.Limits.{IsBlock, IsInstr, max_size}
 use Rattle.il_core.specs.Ranges.{IsBlockOfWords, AreWords, numbers_of}
 use Rattle.il_core.specs.Size.{block_size, blocks_size}
 use Rattle.il_text.specs.declared.front.Front.{Front}
@@ -42,7 +42,7 @@ open_instrs_fit (i ∷ is) h = (h.0, open_instrs_fit is h.1)
 block_fit : (b : ℕ) (x : Block) → b < 2 ^ 32 → IsBlock x → IsBlockOfWords x → AreFit (block_lines b x)
 block_fit b x lt h k = (lt, fit_append (map (λ i. line.Inside (statement.Instr i)) x.instrs) (line.Inside (statement.End x.end) ∷ []) (instr_lines_fit x.instrs h k.0) (k.1, tt))
 
-blocks_fit : (b : ℕ) (xs : List Block) → b + blocks_size xs ≤ 2 ^ 16 → AllByRecursion IsBlock xs → AllByRecursion IsBlockOfWords xs → AreFit (blocks_lines b xs)
+blocks_fit : (b : ℕ) (xs : List Block) → b + blocks_size xs ≤ max_size → AllByRecursion IsBlock xs → AllByRecursion IsBlockOfWords xs → AreFit (blocks_lines b xs)
 blocks_fit b [] le h k = tt
 blocks_fit b (x ∷ xs) le h k =
     let total : blocks_size (x ∷ xs) ≡ block_size x + blocks_size xs = sum_by-cons block_size x xs in

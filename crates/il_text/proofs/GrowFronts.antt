@@ -1,5 +1,5 @@
 -- A front with one more line has that line at the end of its lines, and fits where the line does.
-use Rattle.std.proofs.Common.{◌≡◌, ℕ, ◌+◌, ◌^◌, ◌<◌, ◌≤◌, List, [], ◌∷◌, ◌++◌, length, map, Option, Some, None, refl, sym, ◌∙◌, ap, subst, append-nil, append_assoc, length-append, arith, inl, inr}
+use Rattle.std.proofs.Common.{◌≡◌, ℕ, ◌+◌, ◌<◌, ◌≤◌, List, [], ◌∷◌, ◌++◌, length, map, Option, Some, None, refl, sym, ◌∙◌, ap, subst, append-nil, append_assoc, length-append, arith, inl, inr}
 use Rattle.std.specs.Prelude.{flat_map, nat_lt, ◌==◌}
 use Rattle.std.specs.List.{AllByRecursion}
 use Rattle.std.proofs.lemmas.Bool.{cases_Bool, ltb-true, eqb-true}
@@ -9,7 +9,7 @@ use Rattle.std.proofs.lemmas.List.Sums.{sum_by-append}
 use Rattle.il_core.specs.declared.instr.Block.{Block}
 use Rattle.il_core.specs.declared.instr.Instr.{Instr}
 use Rattle.il_core.specs.declared.instr.End.{End}
-use Rattle.il_core.specs.Limits.{IsBlock, IsInstr}
+use Rattle.il_core.specs.Limits.{IsBlock, IsInstr, max_routines, max_size}
 use Rattle.il_core.specs.Ranges.{IsBlockOfWords, AreWords, numbers_of, end_numbers}
 use Rattle.il_core.specs.Size.{block_size, blocks_size, size}
 use Rattle.il_text.specs.declared.front.Front.{Front}
@@ -65,7 +65,7 @@ header_lines x e =
     ap (λ bs. line.Routine (header x) ∷ blocks_lines 0 bs) e
     ∙ ap (λ bs. let q : NamedRoutine = record x { routine = record x.routine { blocks = bs } } in line.Routine q ∷ []) (sym e)
 
-header_grows : (os : List NamedObject) (rs : List NamedRoutine) (x : NamedRoutine) → AllByRecursion IsFitObject os → AllByRecursion IsFitRoutine rs → length rs < 2 ^ 12 → IsFitHeader x → Grows (line.First ∷ inner_lines os rs ++ []) (line.Routine x) (front os rs (InRoutine x 0))
+header_grows : (os : List NamedObject) (rs : List NamedRoutine) (x : NamedRoutine) → AllByRecursion IsFitObject os → AllByRecursion IsFitRoutine rs → length rs < max_routines → IsFitHeader x → Grows (line.First ∷ inner_lines os rs ++ []) (line.Routine x) (front os rs (InRoutine x 0))
 header_grows os rs x a b lt h = record {
   fit = record {
     objects = a;
@@ -76,7 +76,7 @@ header_grows os rs x a b lt h = record {
   lines = behind os rs [] (open_lines x) (line.Routine x) (header_lines x h.blocks);
 }
 
-grow_outside : (os : List NamedObject) (rs : List NamedRoutine) (l : Line) (g : Front) → AllByRecursion IsFitObject os → AllByRecursion IsFitRoutine rs → length rs ≤ 2 ^ 12 → IsFitLine l → Told (outside os rs l) (line.First ∷ inner_lines os rs ++ []) l g
+grow_outside : (os : List NamedObject) (rs : List NamedRoutine) (l : Line) (g : Front) → AllByRecursion IsFitObject os → AllByRecursion IsFitRoutine rs → length rs ≤ max_routines → IsFitLine l → Told (outside os rs l) (line.First ∷ inner_lines os rs ++ []) l g
 grow_outside os rs line.First g a b room h e = absurd cc
 grow_outside os rs (line.Object x) g a b room h e = elim (cases_Bool (length rs == 0)) [
   | inl is ↦
@@ -89,11 +89,11 @@ grow_outside os rs (line.Object x) g a b room h e = elim (cases_Bool (length rs 
       })
   | inr not ↦ let s : None ≡ Some g = rw not at e in absurd (cc s)
 ]
-grow_outside os rs (line.Routine x) g a b room h e = elim (cases_Bool (nat_lt (length rs) 4096)) [
+grow_outside os rs (line.Routine x) g a b room h e = elim (cases_Bool (nat_lt (length rs) max_routines)) [
   | inl is ↦
       let s : Some (front os rs (InRoutine x 0)) ≡ Some g = rw is at e in
       let same : front os rs (InRoutine x 0) ≡ g = cc s in
-      subst (Grows (line.First ∷ inner_lines os rs ++ []) (line.Routine x)) same (header_grows os rs x a b (ltb-true (length rs) 4096 is) h)
+      subst (Grows (line.First ∷ inner_lines os rs ++ []) (line.Routine x)) same (header_grows os rs x a b (ltb-true (length rs) max_routines is) h)
   | inr not ↦ let s : None ≡ Some g = rw not at e in absurd (cc s)
 ]
 grow_outside os rs (line.Label k) g a b room h e = absurd cc
@@ -106,7 +106,7 @@ grow_outside os rs line.Done g a b room h e =
       lines = behind os rs [] (line.Done ∷ []) line.Done refl;
     })
 
-grow_in_routine : (os : List NamedObject) (rs : List NamedRoutine) (r : NamedRoutine) (n : ℕ) (l : Line) (g : Front) → AllByRecursion IsFitObject os → AllByRecursion IsFitRoutine rs → length rs < 2 ^ 12 → IsFitRoutine r → n ≡ size r.routine
+grow_in_routine : (os : List NamedObject) (rs : List NamedRoutine) (r : NamedRoutine) (n : ℕ) (l : Line) (g : Front) → AllByRecursion IsFitObject os → AllByRecursion IsFitRoutine rs → length rs < max_routines → IsFitRoutine r → n ≡ size r.routine
     → Told (in_routine os rs r n l) (line.First ∷ inner_lines os rs ++ open_lines r) l g
 grow_in_routine os rs r n line.First g a b room h k e = absurd cc
 grow_in_routine os rs r n (line.Object x) g a b room h k e = absurd cc
@@ -156,7 +156,7 @@ fit_instrs (i ∷ is) h = let r = fit_instrs is h.1 in ((h.0.0, r.0), (h.0.1, r.
 size_push : (xs : List Block) (x : Block) → blocks_size (xs ++ x ∷ []) ≡ blocks_size xs + block_size x
 size_push xs x = let s : blocks_size (xs ++ x ∷ []) ≡ blocks_size xs + (0 + block_size x) = sum_by-append block_size xs (x ∷ []) in omega (arith, s)
 
-fit_block : (r : NamedRoutine) (n : ℕ) (is : List Instr) (x : End) → IsFitRoutine r → n ≡ size r.routine → n + length is < 2 ^ 16 → AllByRecursion (λ i. IsFitStatement (statement.Instr i)) is → AreWords (end_numbers x)
+fit_block : (r : NamedRoutine) (n : ℕ) (is : List Instr) (x : End) → IsFitRoutine r → n ≡ size r.routine → n + length is < max_size → AllByRecursion (λ i. IsFitStatement (statement.Instr i)) is → AreWords (end_numbers x)
     → IsFitPlace (InRoutine (with_block r (record { instrs = is; end = x })) (n + length is + 1))
 fit_block r n is x h k lt all w =
     let s = size_push r.routine.blocks (record { instrs = is; end = x }) in
@@ -169,25 +169,25 @@ fit_block r n is x h k lt all w =
       omega (arith, s, k),
     )
 
-grow_in_block : (os : List NamedObject) (rs : List NamedRoutine) (r : NamedRoutine) (n : ℕ) (is : List Instr) (s : Statement) (g : Front) → AllByRecursion IsFitObject os → AllByRecursion IsFitRoutine rs → length rs < 2 ^ 12 → IsFitRoutine r → n ≡ size r.routine
+grow_in_block : (os : List NamedObject) (rs : List NamedRoutine) (r : NamedRoutine) (n : ℕ) (is : List Instr) (s : Statement) (g : Front) → AllByRecursion IsFitObject os → AllByRecursion IsFitRoutine rs → length rs < max_routines → IsFitRoutine r → n ≡ size r.routine
     → IsFitBlock n is → IsFitStatement s → Told (at_place os rs (in_block r n is s)) (line.First ∷ inner_lines os rs ++ so_far r is) (line.Inside s) g
-grow_in_block os rs r n is (statement.Instr i) g a b room h k fits f e = elim (cases_Bool (nat_lt (n + length is) 65536)) [
+grow_in_block os rs r n is (statement.Instr i) g a b room h k fits f e = elim (cases_Bool (nat_lt (n + length is) max_size)) [
   | inl less ↦
       let s : Some (front os rs (InBlock r n (is ++ i ∷ []))) ≡ Some g = rw less at e in
       let same : front os rs (InBlock r n (is ++ i ∷ [])) ≡ g = cc s in
-      let lt = ltb-true (n + length is) 65536 less in
+      let lt = ltb-true (n + length is) max_size less in
       subst (Grows (line.First ∷ inner_lines os rs ++ so_far r is) (line.Inside (statement.Instr i))) same (record {
         fit = record { objects = a; routines = b; place = (h, k, record { room = omega (arith, lt, length-append is (i ∷ [])); instrs = all_push (λ j. IsFitStatement (statement.Instr j)) is i fits.instrs f }); room = room };
         lines = behind os rs (so_far r is) (so_far r (is ++ i ∷ [])) (line.Inside (statement.Instr i)) (instr_added r is i);
       })
   | inr not ↦ let s : None ≡ Some g = rw not at e in absurd (cc s)
 ]
-grow_in_block os rs r n is (statement.End x) g a b room h k fits f e = elim (cases_Bool (nat_lt (n + length is) 65536)) [
+grow_in_block os rs r n is (statement.End x) g a b room h k fits f e = elim (cases_Bool (nat_lt (n + length is) max_size)) [
   | inl less ↦
       let s : Some (front os rs (InRoutine (with_block r (record { instrs = is; end = x })) (n + length is + 1))) ≡ Some g = rw less at e in
       let same : front os rs (InRoutine (with_block r (record { instrs = is; end = x })) (n + length is + 1)) ≡ g = cc s in
       subst (Grows (line.First ∷ inner_lines os rs ++ so_far r is) (line.Inside (statement.End x))) same (record {
-        fit = record { objects = a; routines = b; place = fit_block r n is x h k (ltb-true (n + length is) 65536 less) fits.instrs f; room = room };
+        fit = record { objects = a; routines = b; place = fit_block r n is x h k (ltb-true (n + length is) max_size less) fits.instrs f; room = room };
         lines = behind os rs (so_far r is) (open_lines (with_block r (record { instrs = is; end = x }))) (line.Inside (statement.End x)) (block_ended r is x);
       })
   | inr not ↦ let s : None ≡ Some g = rw not at e in absurd (cc s)

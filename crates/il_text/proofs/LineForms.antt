@@ -1,7 +1,8 @@
 -- Lines by their first words, and routines by the parts of their first lines.
-use Rattle.std.proofs.Common.{◌≡◌, ℕ, ◌+◌, ◌^◌, ◌≤◌, Bool, List, [], ◌∷◌, ◌++◌, Some, refl, sum, arith}
+use Rattle.std.proofs.Common.{◌≡◌, ℕ, ◌+◌, ◌≤◌, Bool, List, [], ◌∷◌, ◌++◌, Some, refl, sum, arith}
 use Rattle.std.specs.Prelude.{codes}
 use Rattle.std.proofs.lemmas.List.Sums.{sum_by-append}
+use Rattle.il_core.specs.Limits.{max_elements}
 use Rattle.il_core.specs.declared.instr.Block.{Block}
 use Rattle.il_core.specs.Ranges.{AreWords}
 use Rattle.il_core.specs.Text.{block}
@@ -13,7 +14,7 @@ use Rattle.il_text.specs.declared.line.NamedRoutine.{NamedRoutine}
 use Rattle.il_text.specs.Kinds.{kind_text}
 use Rattle.il_text.specs.Lines.{line_words}
 
-pub words_of_sum : (ns : List ℕ) → sum ns ≤ 2 ^ 20 → AreWords ns
+pub words_of_sum : (ns : List ℕ) → sum ns ≤ max_elements → AreWords ns
 words_of_sum [] h = tt
 words_of_sum (n ∷ ns) h = let s : sum (n ∷ ns) ≡ (0 + n) + sum ns = sum_by-append (λ m. m) (n ∷ []) ns in (omega (arith, s), words_of_sum ns (omega (arith, s)))
 

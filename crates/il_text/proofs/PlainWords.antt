@@ -13,6 +13,7 @@ use Rattle.hlo_num.specs.declared.word.Ty.{Ty}
 use Rattle.hlo_num.specs.declared.word.Ty.TheVariants as ty
 use Rattle.hlo_num.specs.declared.word.Word.{Word}
 use Rattle.hlo_num.specs.Name.{is_name_byte}
+use Rattle.il_core.specs.Limits.{max_pids}
 use Rattle.il_core.specs.declared.instr.Instr.TheVariants as instr
 use Rattle.il_core.specs.declared.instr.End.TheVariants as ends
 use Rattle.il_core.specs.Ranges.{AreWords, AreConstants}
@@ -59,7 +60,7 @@ array_plain n lt = lettered_plain 97 n (omega arith) lt
 block_plain : (n : ℕ) → n < 2 ^ 32 → IsPlain (block n)
 block_plain n lt = lettered_plain 98 n (omega arith) lt
 
-global_plain : (n : ℕ) → n < 2 ^ 17 → IsPlain (global n)
+global_plain : (n : ℕ) → n < max_pids → IsPlain (global n)
 global_plain n lt = lettered_plain 103 n (omega arith) (omega arith)
 
 word_plain : (w : Word) → w.0 < 2 ^ 32 → IsPlain (word w)

@@ -1,5 +1,5 @@
 -- What was read and is in order, as a program.
-use Rattle.std.proofs.Common.{◌≡◌, ℕ, suc, ◌^◌, ◌<◌, ◌≤◌, true, false, List, [], ◌∷◌, ◌++◌, Some, None, length, map, refl, sym, ◌∙◌, ap, subst, length-append, arith, inl, inr}
+use Rattle.std.proofs.Common.{◌≡◌, ℕ, suc, ◌<◌, ◌≤◌, true, false, List, [], ◌∷◌, ◌++◌, Some, None, length, map, refl, sym, ◌∙◌, ap, subst, length-append, arith, inl, inr}
 use Rattle.std.specs.Prelude.{Contains, codes, ◌&&◌, not, nat_lt, ◌==◌}
 use Rattle.std.specs.List.{AllByRecursion, list_any}
 use Rattle.std.specs.List.Sorted.{IsPermutation}
@@ -11,7 +11,7 @@ use Rattle.il_core.specs.declared.shape.ShapeRow.{ShapeRow}
 use Rattle.il_core.specs.declared.shape.Shape.{Shape}
 use Rattle.il_core.specs.declared.shape.Shape.TheVariants as shape
 use Rattle.il_core.specs.declared.program.IlProgram.{IlProgram}
-use Rattle.il_core.specs.Limits.{IsPid}
+use Rattle.il_core.specs.Limits.{IsPid, max_pids, max_routines}
 use Rattle.il_core.specs.Object.{ObjectParts}
 use Rattle.il_core.specs.Routine.{RoutineParts}
 use Rattle.il_core.specs.Program.{found, shape_at, shape_of_row}
@@ -90,17 +90,17 @@ routines_rise : (rs : List NamedRoutine) → IsRising (λ (y : Item). y.pid) (ro
 routines_rise [] h = tt
 routines_rise (r ∷ rs) h = routines_from r.routine.pid rs h
 
-object_pids : (os : List NamedObject) → AllByRecursion IsFitObject os → AllByRecursion (λ o. not (nat_lt (object_row o).pid 131072) ≡ false) os
+object_pids : (os : List NamedObject) → AllByRecursion IsFitObject os → AllByRecursion (λ o. not (nat_lt (object_row o).pid max_pids) ≡ false) os
 object_pids [] h = tt
-object_pids (o ∷ os) h = (ap not (lt-ltb o.object.pid 131072 h.0.pid), object_pids os h.1)
+object_pids (o ∷ os) h = (ap not (lt-ltb o.object.pid max_pids h.0.pid), object_pids os h.1)
 
-routine_pids : (rs : List NamedRoutine) → AllByRecursion IsFitRoutine rs → AllByRecursion (λ r. not (nat_lt (routine_row r).pid 131072) ≡ false) rs
+routine_pids : (rs : List NamedRoutine) → AllByRecursion IsFitRoutine rs → AllByRecursion (λ r. not (nat_lt (routine_row r).pid max_pids) ≡ false) rs
 routine_pids [] h = tt
-routine_pids (r ∷ rs) h = (ap not (lt-ltb r.routine.pid 131072 h.0.limits.pid), routine_pids rs h.1)
+routine_pids (r ∷ rs) h = (ap not (lt-ltb r.routine.pid max_pids h.0.limits.pid), routine_pids rs h.1)
 
-are_pids : (rows : List ShapeRow) → AllByRecursion (λ (r : ShapeRow). not (nat_lt r.pid 131072) ≡ false) rows → AllByRecursion (λ (r : ShapeRow). IsPid r.pid) rows
+are_pids : (rows : List ShapeRow) → AllByRecursion (λ (r : ShapeRow). not (nat_lt r.pid max_pids) ≡ false) rows → AllByRecursion (λ (r : ShapeRow). IsPid r.pid) rows
 are_pids [] h = tt
-are_pids (r ∷ rows) h = (ltb-true r.pid 131072 (not-false (nat_lt r.pid 131072) h.0), are_pids rows h.1)
+are_pids (r ∷ rows) h = (ltb-true r.pid max_pids (not-false (nat_lt r.pid max_pids) h.0), are_pids rows h.1)
 
 some_words : (os : List NamedObject) → AllByRecursion IsFitObject os → AllByRecursion (λ (o : ObjectParts). 0 < o.words) (map (λ o. o.object) os)
 some_words [] h = tt
@@ -121,7 +121,7 @@ main_found (r ∷ rows) e = elim (cases_Bool (is_main r)) [
 ]
 
 -- a valid program
-pub is_program : (os : List NamedObject) (rs : List NamedRoutine) (p : IlProgram) → AllByRecursion IsFitObject os → AllByRecursion IsFitRoutine rs → length rs ≤ 2 ^ 12 → first_out_of_order os rs ≡ None → HasPartsOf os rs p
+pub is_program : (os : List NamedObject) (rs : List NamedRoutine) (p : IlProgram) → AllByRecursion IsFitObject os → AllByRecursion IsFitRoutine rs → length rs ≤ max_routines → first_out_of_order os rs ≡ None → HasPartsOf os rs p
     → AllByRecursion (IsValid p.shapes) p.routines → list_any is_main p.shapes ≡ true → IsProgram p
 is_program os rs p a b few e h valid main =
     let part = object_part os rs e in
@@ -141,14 +141,14 @@ is_program os rs p a b few e h valid main =
       };
       names = rows_names_once os rs p.shapes e h.rows;
       few = omega (arith, routines, few);
-      pids = are_pids p.shapes (each_moved (λ (r : ShapeRow). not (nat_lt r.pid 131072)) os rs p.shapes h.rows (object_pids os a) (routine_pids rs b));
+      pids = are_pids p.shapes (each_moved (λ (r : ShapeRow). not (nat_lt r.pid max_pids)) os rs p.shapes h.rows (object_pids os a) (routine_pids rs b));
       words = subst (AllByRecursion (λ (o : ObjectParts). 0 < o.words)) (sym h.objects) (some_words os a);
       each = valid;
       main = main_found p.shapes main;
     }
 
-room_at : (p : Place) (os : List NamedObject) (rs : List NamedRoutine) → p ≡ Done → IsRoomAt p os rs → length rs ≤ 2 ^ 12
+room_at : (p : Place) (os : List NamedObject) (rs : List NamedRoutine) → p ≡ Done → IsRoomAt p os rs → length rs ≤ max_routines
 room_at p os rs e h = subst (λ q. IsRoomAt q os rs) e h
 
-pub done_room : (f : Front) → IsFitFront f → f.place ≡ Done → length f.routines ≤ 2 ^ 12
+pub done_room : (f : Front) → IsFitFront f → f.place ≡ Done → length f.routines ≤ max_routines
 done_room f h e = room_at f.place f.objects f.routines e h.room

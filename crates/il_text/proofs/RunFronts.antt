@@ -1,9 +1,10 @@
 -- The lines of a front lead to that front, and to no other.
-use Rattle.std.proofs.Common.{◌≡◌, ℕ, ◌+◌, ◌^◌, ◌<◌, ◌≤◌, List, [], ◌∷◌, ◌++◌, length, map, Option, Some, None, refl, sym, ◌∙◌, ap, subst, append-nil, append_assoc, length-append, arith}
+use Rattle.std.proofs.Common.{◌≡◌, ℕ, ◌+◌, ◌<◌, ◌≤◌, List, [], ◌∷◌, ◌++◌, length, map, Option, Some, None, refl, sym, ◌∙◌, ap, subst, append-nil, append_assoc, length-append, arith}
 use Rattle.std.specs.Prelude.{flat_map}
 use Rattle.std.specs.List.{AllByRecursion}
 use Rattle.std.proofs.lemmas.Bool.{eq-eqb, lt-ltb}
 use Rattle.std.proofs.lemmas.List.Sums.{sum_by-cons}
+use Rattle.il_core.specs.Limits.{max_routines, max_size}
 use Rattle.il_core.specs.declared.instr.Block.{Block}
 use Rattle.il_core.specs.declared.instr.Instr.{Instr}
 use Rattle.il_core.specs.Size.{block_size, blocks_size, size}
@@ -42,33 +43,33 @@ then_run o xs ys f g e h = run_append o xs ys ∙ ap (λ q. run q ys) e ∙ h
 then_next : (f g : Front) (l : Line) (ls : List Line) (o : Option Front) → next f l ≡ Some g → run (Some g) ls ≡ o → run (Some f) (l ∷ ls) ≡ o
 then_next f g l ls o e h = ap (λ q. run q ls) e ∙ h
 
-next_instr : (os : List NamedObject) (rs : List NamedRoutine) (r : NamedRoutine) (n : ℕ) (is : List Instr) (i : Instr) → n + length is < 2 ^ 16
+next_instr : (os : List NamedObject) (rs : List NamedRoutine) (r : NamedRoutine) (n : ℕ) (is : List Instr) (i : Instr) → n + length is < max_size
     → next (front os rs (InBlock r n is)) (line.Inside (statement.Instr i)) ≡ Some (front os rs (InBlock r n (is ++ i ∷ [])))
-next_instr os rs r n is i lt = rw (lt-ltb (n + length is) 65536 (omega arith)) refl
+next_instr os rs r n is i lt = rw (lt-ltb (n + length is) max_size (omega arith)) refl
 
-next_end : (os : List NamedObject) (rs : List NamedRoutine) (r : NamedRoutine) (n : ℕ) (x : Block) → n + length x.instrs < 2 ^ 16
+next_end : (os : List NamedObject) (rs : List NamedRoutine) (r : NamedRoutine) (n : ℕ) (x : Block) → n + length x.instrs < max_size
     → next (front os rs (InBlock r n x.instrs)) (line.Inside (statement.End x.end)) ≡ Some (front os rs (InRoutine (with_block r x) (n + length x.instrs + 1)))
-next_end os rs r n x lt = rw (lt-ltb (n + length x.instrs) 65536 (omega arith)) refl
+next_end os rs r n x lt = rw (lt-ltb (n + length x.instrs) max_size (omega arith)) refl
 
 next_label : (os : List NamedObject) (rs : List NamedRoutine) (r : NamedRoutine) (n : ℕ) → next (front os rs (InRoutine r n)) (line.Label (length r.routine.blocks)) ≡ Some (front os rs (InBlock r n []))
 next_label os rs r n = rw (eq-eqb (length r.routine.blocks) (length r.routine.blocks) refl) refl
 
-next_routine : (os : List NamedObject) (rs : List NamedRoutine) (r : NamedRoutine) → length rs < 2 ^ 12 → next (front os rs Outside) (line.Routine r) ≡ Some (front os rs (InRoutine r 0))
-next_routine os rs r lt = rw (lt-ltb (length rs) 4096 (omega arith)) refl
+next_routine : (os : List NamedObject) (rs : List NamedRoutine) (r : NamedRoutine) → length rs < max_routines → next (front os rs Outside) (line.Routine r) ≡ Some (front os rs (InRoutine r 0))
+next_routine os rs r lt = rw (lt-ltb (length rs) max_routines (omega arith)) refl
 
 abbrev instr_lines : List Instr → List Line
 instr_lines is = map (λ i. line.Inside (statement.Instr i)) is
 
-run_instrs : (os : List NamedObject) (rs : List NamedRoutine) (r : NamedRoutine) (n : ℕ) (is js : List Instr) → n + length is + length js ≤ 2 ^ 16
+run_instrs : (os : List NamedObject) (rs : List NamedRoutine) (r : NamedRoutine) (n : ℕ) (is js : List Instr) → n + length is + length js ≤ max_size
     → run (Some (front os rs (InBlock r n is))) (instr_lines js) ≡ Some (front os rs (InBlock r n (is ++ js)))
 run_instrs os rs r n is [] h = ap (λ l. Some (front os rs (InBlock r n l))) (sym (append-nil is))
 run_instrs os rs r n is (j ∷ js) h =
-    let lt : n + length is < 2 ^ 16 = omega arith in
+    let lt : n + length is < max_size = omega arith in
     let len = length-append is (j ∷ []) in
     then_next (front os rs (InBlock r n is)) (front os rs (InBlock r n (is ++ j ∷ []))) (line.Inside (statement.Instr j)) (instr_lines js) _ (next_instr os rs r n is j lt)
     (run_instrs os rs r n (is ++ j ∷ []) js (omega (arith, len)) ∙ ap (λ l. Some (front os rs (InBlock r n l))) (append_assoc is (j ∷ []) js))
 
-run_block : (os : List NamedObject) (rs : List NamedRoutine) (r : NamedRoutine) (n : ℕ) (x : Block) → n + block_size x ≤ 2 ^ 16
+run_block : (os : List NamedObject) (rs : List NamedRoutine) (r : NamedRoutine) (n : ℕ) (x : Block) → n + block_size x ≤ max_size
     → run (Some (front os rs (InRoutine r n))) (block_lines (length r.routine.blocks) x) ≡ Some (front os rs (InRoutine (with_block r x) (n + block_size x)))
 run_block os rs r n x h =
     then_next (front os rs (InRoutine r n)) (front os rs (InBlock r n [])) (line.Label (length r.routine.blocks)) (instr_lines x.instrs ++ line.Inside (statement.End x.end) ∷ []) _ (next_label os rs r n)
@@ -85,7 +86,7 @@ more_blocks r x xs = ap (λ bs. let q : NamedRoutine = record r { routine = reco
 no_blocks : (r : NamedRoutine) → with_blocks r [] ≡ r
 no_blocks r = ap (λ bs. let q : NamedRoutine = record r { routine = record r.routine { blocks = bs } } in q) (append-nil r.routine.blocks)
 
-run_blocks : (os : List NamedObject) (rs : List NamedRoutine) (r : NamedRoutine) (n b : ℕ) (xs : List Block) → b ≡ length r.routine.blocks → n + blocks_size xs ≤ 2 ^ 16
+run_blocks : (os : List NamedObject) (rs : List NamedRoutine) (r : NamedRoutine) (n b : ℕ) (xs : List Block) → b ≡ length r.routine.blocks → n + blocks_size xs ≤ max_size
     → run (Some (front os rs (InRoutine r n))) (blocks_lines b xs) ≡ Some (front os rs (InRoutine (with_blocks r xs) (n + blocks_size xs)))
 run_blocks os rs r n b [] e h = ap (λ q. Some (front os rs (InRoutine q n))) (sym (no_blocks r)) ∙ ap (λ m. Some (front os rs (InRoutine (with_blocks r []) m))) (omega arith)
 run_blocks os rs r n b (x ∷ xs) e h =
@@ -97,17 +98,17 @@ run_blocks os rs r n b (x ∷ xs) e h =
     ∙ ap (λ q. Some (front os rs (InRoutine q (n + block_size x + blocks_size xs)))) (more_blocks r x xs)
     ∙ ap (λ m. Some (front os rs (InRoutine (with_blocks r (x ∷ xs)) m))) (omega (arith, total)))
 
-run_open : (os : List NamedObject) (rs : List NamedRoutine) (r : NamedRoutine) → length rs < 2 ^ 12 → IsFitRoutine r
+run_open : (os : List NamedObject) (rs : List NamedRoutine) (r : NamedRoutine) → length rs < max_routines → IsFitRoutine r
     → run (Some (front os rs Outside)) (open_lines r) ≡ Some (front os rs (InRoutine r (size r.routine)))
 run_open os rs r lt h =
     then_next (front os rs Outside) (front os rs (InRoutine (header r) 0)) (line.Routine (header r)) (blocks_lines 0 r.routine.blocks) _ (next_routine os rs (header r) lt)
     (run_blocks os rs (header r) 0 0 r.routine.blocks refl (omega (arith, h.limits.size)) ∙ ap (λ m. Some (front os rs (InRoutine r m))) (omega arith))
 
-run_routine : (os : List NamedObject) (rs : List NamedRoutine) (r : NamedRoutine) → length rs < 2 ^ 12 → IsFitRoutine r
+run_routine : (os : List NamedObject) (rs : List NamedRoutine) (r : NamedRoutine) → length rs < max_routines → IsFitRoutine r
     → run (Some (front os rs Outside)) (routine_lines r) ≡ Some (front os (rs ++ r ∷ []) Outside)
 run_routine os rs r lt h = then_run (Some (front os rs Outside)) (open_lines r) (line.Close ∷ []) (front os rs (InRoutine r (size r.routine))) _ (run_open os rs r lt h) refl
 
-run_routines : (os : List NamedObject) (rs xs : List NamedRoutine) → length rs + length xs ≤ 2 ^ 12 → AllByRecursion IsFitRoutine xs
+run_routines : (os : List NamedObject) (rs xs : List NamedRoutine) → length rs + length xs ≤ max_routines → AllByRecursion IsFitRoutine xs
     → run (Some (front os rs Outside)) (flat_map routine_lines xs) ≡ Some (front os (rs ++ xs) Outside)
 run_routines os rs [] le h = ap (λ l. Some (front os l Outside)) (sym (append-nil rs))
 run_routines os rs (x ∷ xs) le h =
@@ -119,17 +120,17 @@ run_objects : (os xs : List NamedObject) → run (Some (front os [] Outside)) (m
 run_objects os [] = ap (λ l. Some (front l [] Outside)) (sym (append-nil os))
 run_objects os (x ∷ xs) = run_objects (os ++ x ∷ []) xs ∙ ap (λ l. Some (front l [] Outside)) (append_assoc os (x ∷ []) xs)
 
-run_inner : (os : List NamedObject) (rs : List NamedRoutine) → length rs ≤ 2 ^ 12 → AllByRecursion IsFitRoutine rs → run (Some (front [] [] Outside)) (inner_lines os rs) ≡ Some (front os rs Outside)
+run_inner : (os : List NamedObject) (rs : List NamedRoutine) → length rs ≤ max_routines → AllByRecursion IsFitRoutine rs → run (Some (front [] [] Outside)) (inner_lines os rs) ≡ Some (front os rs Outside)
 run_inner os rs le h = then_run (Some (front [] [] Outside)) (map (λ o. line.Object o) os) (flat_map routine_lines rs) (front os [] Outside) _ (run_objects [] os) (run_routines os [] rs (omega arith) h)
 
 abbrev pub at_start : Front
 at_start = front [] [] Start
 
-run_to : (os : List NamedObject) (rs : List NamedRoutine) (p : Place) → length rs ≤ 2 ^ 12 → AllByRecursion IsFitRoutine rs → run (Some (front os rs Outside)) (place_lines p) ≡ Some (front os rs p)
+run_to : (os : List NamedObject) (rs : List NamedRoutine) (p : Place) → length rs ≤ max_routines → AllByRecursion IsFitRoutine rs → run (Some (front os rs Outside)) (place_lines p) ≡ Some (front os rs p)
     → run (Some at_start) (line.First ∷ inner_lines os rs ++ place_lines p) ≡ Some (front os rs p)
 run_to os rs p le h e = then_run (Some (front [] [] Outside)) (inner_lines os rs) (place_lines p) (front os rs Outside) _ (run_inner os rs le h) e
 
-run_in_block : (os : List NamedObject) (rs : List NamedRoutine) (r : NamedRoutine) (n : ℕ) (is : List Instr) → length rs < 2 ^ 12 → IsFitRoutine r → n ≡ size r.routine → IsFitBlock n is
+run_in_block : (os : List NamedObject) (rs : List NamedRoutine) (r : NamedRoutine) (n : ℕ) (is : List Instr) → length rs < max_routines → IsFitRoutine r → n ≡ size r.routine → IsFitBlock n is
     → run (Some (front os rs Outside)) (place_lines (InBlock r n is)) ≡ Some (front os rs (InBlock r n is))
 run_in_block os rs r n is lt h e b =
     then_run (Some (front os rs Outside)) (open_lines r) (line.Label (length r.routine.blocks) ∷ instr_lines is) (front os rs (InRoutine r n)) _

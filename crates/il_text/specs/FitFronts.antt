@@ -1,9 +1,9 @@
 -- Fronts within the limits of the language.
-use Rattle.std.specs.Prelude.{ℕ, ◌≡◌, ◌+◌, ◌^◌, ◌<◌, ◌≤◌, List, [], length, ⊤}
+use Rattle.std.specs.Prelude.{ℕ, ◌≡◌, ◌+◌, ◌<◌, ◌≤◌, List, [], length, ⊤}
 use Rattle.std.specs.List.{AllByRecursion}
 use Rattle.hlo_num.specs.Name.{IsName}
 use Rattle.il_core.specs.declared.instr.Instr.{Instr}
-use Rattle.il_core.specs.Limits.{IsWithinLimits}
+use Rattle.il_core.specs.Limits.{IsWithinLimits, max_routines, max_size}
 use Rattle.il_core.specs.Ranges.{IsRoutineOfWords}
 use Rattle.il_core.specs.Size.{size}
 use Rattle.il_text.specs.declared.front.Front.{Front}
@@ -21,7 +21,7 @@ pub record IsFitRoutine (r : NamedRoutine) : Type 0 where
 
 -- an open block's instructions, behind blocks of this size
 pub record IsFitBlock (n : ℕ) (is : List Instr) : Type 0 where
-  pub room : n + length is ≤ 2 ^ 16
+  pub room : n + length is ≤ max_size
   pub instrs : AllByRecursion (λ i. IsFitStatement (statement.Instr i)) is
 
 abbrev pub IsFitPlace : Place → Type 0
@@ -34,10 +34,10 @@ IsFitPlace place.Done = ⊤
 -- how many routines there may be before a place: an open one is one more; at the start there is nothing
 abbrev pub IsRoomAt : Place → List NamedObject → List NamedRoutine → Type 0
 IsRoomAt place.Start os rs = (os ≡ []) × (rs ≡ [])
-IsRoomAt place.Outside os rs = length rs ≤ 2 ^ 12
-IsRoomAt (place.InRoutine r n) os rs = length rs < 2 ^ 12
-IsRoomAt (place.InBlock r n is) os rs = length rs < 2 ^ 12
-IsRoomAt place.Done os rs = length rs ≤ 2 ^ 12
+IsRoomAt place.Outside os rs = length rs ≤ max_routines
+IsRoomAt (place.InRoutine r n) os rs = length rs < max_routines
+IsRoomAt (place.InBlock r n is) os rs = length rs < max_routines
+IsRoomAt place.Done os rs = length rs ≤ max_routines
 
 pub record IsFitFront (f : Front) : Type 0 where
   pub objects : AllByRecursion IsFitObject f.objects

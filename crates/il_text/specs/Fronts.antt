@@ -1,5 +1,6 @@
 -- Fronts of texts: what their lines are, and how they go on.
-use Rattle.std.specs.Prelude.{ℕ, ◌+◌, ◌^◌, ◌==◌, nat_lt, List, [], ◌∷◌, ◌++◌, Option, Some, None, if◌then◌else◌, length, map, flat_map}
+use Rattle.std.specs.Prelude.{ℕ, ◌+◌, ◌==◌, nat_lt, List, [], ◌∷◌, ◌++◌, Option, Some, None, if◌then◌else◌, length, map, flat_map}
+use Rattle.il_core.specs.Limits.{max_routines, max_size}
 use Rattle.il_core.specs.declared.instr.Block.{Block}
 use Rattle.il_core.specs.declared.instr.Instr.{Instr}
 use Rattle.il_text.specs.declared.front.Front.{Front}
@@ -56,7 +57,7 @@ front_lines f = lines_of f.place f.objects f.routines
 -- between objects and routines
 abbrev pub outside : List NamedObject → List NamedRoutine → Line → Option Front
 outside os rs (line.Object o) = if length rs == 0 then Some (record { objects = os ++ o ∷ []; routines = rs; place = place.Outside }) else None
-outside os rs (line.Routine r) = if nat_lt (length rs) (2 ^ 12) then Some (record { objects = os; routines = rs; place = place.InRoutine r 0 }) else None
+outside os rs (line.Routine r) = if nat_lt (length rs) max_routines then Some (record { objects = os; routines = rs; place = place.InRoutine r 0 }) else None
 outside os rs line.Done = Some (record { objects = os; routines = rs; place = place.Done })
 outside os rs _ = None
 
@@ -71,8 +72,8 @@ with_block r x = record r { routine = record r.routine { blocks = r.routine.bloc
 
 -- inside a block
 abbrev pub in_block : NamedRoutine → ℕ → List Instr → Statement → Option Place
-in_block r n is (statement.Instr i) = if nat_lt (n + length is) (2 ^ 16) then Some (place.InBlock r n (is ++ i ∷ [])) else None
-in_block r n is (statement.End e) = if nat_lt (n + length is) (2 ^ 16) then Some (place.InRoutine (with_block r (record { instrs = is; end = e })) (n + length is + 1)) else None
+in_block r n is (statement.Instr i) = if nat_lt (n + length is) max_size then Some (place.InBlock r n (is ++ i ∷ [])) else None
+in_block r n is (statement.End e) = if nat_lt (n + length is) max_size then Some (place.InRoutine (with_block r (record { instrs = is; end = e })) (n + length is + 1)) else None
 
 abbrev pub at_place : List NamedObject → List NamedRoutine → Option Place → Option Front
 at_place os rs None = None

@@ -2,7 +2,7 @@
 use Rattle.std.specs.Prelude.{ℕ, ◌≡◌, ◌<◌, ◌≤◌, ◌^◌, List, ◌∷◌, Option, codes, Some, None}
 use Rattle.std.specs.Fmt.{decimal}
 use Rattle.hlo_num.specs.Name.{IsName}
-use Rattle.il_core.specs.Limits.{IsPid}
+use Rattle.il_core.specs.Limits.{IsPid, max_parameters, max_registers}
 use Rattle.il_core.specs.Text.{init_parts, arrays_parts, value_name}
 use Rattle.il_text.specs.declared.header.ObjectHead.{ObjectHead}
 use Rattle.il_text.specs.declared.header.RoutineHead.{RoutineHead}
@@ -46,8 +46,8 @@ pub record IsRoutineHeadOf (h : RoutineHead) (words : List (List ℕ)) : Type 0 
   pub read : words ≡ decimal h.pid ∷ h.name.now ∷ codes "params" ∷ decimal h.params ∷ value_name h.value ∷ codes "regs" ∷ decimal h.regs ∷ codes "entry" ∷ decimal h.entry ∷ words_left h.rest
   pub pid : IsPid h.pid
   pub name : IsName h.name.now
-  pub params : h.params ≤ 31
-  pub regs : h.regs ≤ 2 ^ 15
+  pub params : h.params ≤ max_parameters
+  pub regs : h.regs ≤ max_registers
   pub entry : h.entry < 2 ^ 32
 
 -- this routine's head was read, and these words are left

@@ -1,6 +1,7 @@
 -- What is wrong with a text: its lines, the order of its objects and routines, a routine, `main`.
 use Rattle.std.specs.Prelude.{ℕ, ◌≡◌, ◌+◌, ◌-◌, ◌^◌, ◌≤◌, ◌⊎◌, min, false, true, List, [], Some, None, length, take, sum_by, ⊤}
 use Rattle.std.specs.List.{AllByRecursion, list_any}
+use Rattle.il_core.specs.Limits.{max_routines}
 use Rattle.il_core.specs.declared.program.IlProgram.{IlProgram}
 use Rattle.il_core.specs.Valid.{IsValid}
 use Rattle.il_check.specs.declared.flaw.Flaw.{Flaw}
@@ -63,7 +64,7 @@ IsCheckFault p Memory = ⊥
 pub record IsDraft (b : List ℕ) (os : List NamedObject) (rs : List NamedRoutine) : Type 0 where
   pub objects : AllByRecursion IsFitObject os
   pub routines : AllByRecursion IsFitRoutine rs
-  pub few : length rs ≤ 2 ^ 12
+  pub few : length rs ≤ max_routines
   pub text : b ≡ lines_text (lines_of Done os rs)
 
 -- the lines are those of objects and routines of which this holds

@@ -1,7 +1,7 @@
 //! Texts that are read line by line.
 ghost use Rattle.std.specs.Prelude.{◌≡◌, ◌+◌, ◌≤◌, ◌^◌, IfOk, length};
 ghost use Rattle.il_core.specs.Size.{size};
-ghost use Rattle.il_core.specs.Limits.{IsBlock};
+ghost use Rattle.il_core.specs.Limits.{IsBlock, max_size};
 ghost use Rattle.il_text.specs.Lines.{IsFitLine, IsFitStatement};
 ghost use Rattle.il_text.specs.Fronts.{in_block, in_routine, next, outside, with_block};
 ghost use Rattle.il_text.specs.FitFronts.{IsFitPlace};
@@ -9,14 +9,8 @@ ghost use Rattle.il_text.specs.FitFronts.{IsFitPlace};
 use crate::line::{Line, NamedObject, NamedRoutine};
 use crate::statement::Statement;
 use hlo_num::Seq;
-use il_core::{Block, Instr, Routine};
+use il_core::{Block, Instr, Routine, limits};
 use std::alloc::{AllocError, Global};
-
-/// The most routines of a program.
-const MAX_ROUTINES: usize = 1 << 12;
-
-/// The largest size of a routine.
-const MAX_SIZE: u64 = 1 << 16;
 
 /// What was read of a text so far.
 #[derive(Drop)]
@@ -90,7 +84,9 @@ fn outside(
             objects.push(object)?;
             Place::Outside
         }
-        Line::Routine(routine) if routines.len() < MAX_ROUTINES => Place::InRoutine(routine, 0),
+        Line::Routine(routine) if routines.len() < limits::ROUTINES as usize => Place::InRoutine(
+            routine, 0,
+        ),
         Line::Done => Place::Done,
         _ => return Ok(None),
     };
@@ -140,7 +136,7 @@ fn in_block(
     requires place { IsFitPlace (Place.InBlock routine size instrs) }
     ensures { IfOk result (λ o. o ≡ in_block routine size instrs statement) }
 {
-    if u64::from(size) + instrs.len() as u64 >= MAX_SIZE {
+    if u64::from(size) + instrs.len() as u64 >= u64::from(limits::SIZE) {
         return Ok(None);
     }
     match statement {
@@ -158,7 +154,7 @@ fn in_block(
 
 /// A routine with one more block.
 fn with_block(named: NamedRoutine, block: Block) -> Result<NamedRoutine, AllocError>
-    requires size { size named.routine + (length block.instrs + 1) ≤ 2 ^ 16 }
+    requires size { size named.routine + (length block.instrs + 1) ≤ max_size }
     requires block { IsBlock block }
     ensures { IfOk result (λ r. r ≡ with_block named block) }
 {

@@ -3,7 +3,7 @@ ghost use Rattle.std.specs.Prelude.{◌≡◌, ℕ, ◌^◌, ◌<◌, ◌≤◌,
 ghost use Rattle.std.specs.List.{list_all};
 ghost use Rattle.std.specs.Fmt.{decimal};
 ghost use Rattle.hlo_num.specs.Name.{IsName, is_name_byte};
-ghost use Rattle.il_core.specs.Limits.{IsPid};
+ghost use Rattle.il_core.specs.Limits.{IsPid, max_parameters, max_registers};
 ghost use Rattle.il_text.specs.Heads.{AreRead, IsObjectHead, IsObjectHeadOf, IsRoutineHead, IsRoutineHeadOf, object_tail, routine_front, routine_tail};
 ghost use Rattle.il_core.specs.Text.{value_name};
 ghost use Rattle.il_text.specs.Lines.{IsFitHeader, IsFitObject};
@@ -16,7 +16,7 @@ use crate::lists::{arrays, init};
 use crate::operands::count;
 use crate::words::{Words, after, next};
 use hlo_num::{Name, Seq};
-use il_core::{Object, Routine};
+use il_core::{Object, Routine, limits};
 use std::alloc::{AllocError, Global};
 
 /// The line of an object up to its words at the start.
@@ -75,7 +75,11 @@ fn pid(words: Words<'_>) -> Option<(u32, Words<'_>)>
     ensures each { (n : ℕ) (ws : List (List ℕ)) → IsPid n → words_left words.entry ≡ decimal n ∷ ws → IsRead result n ws }
 {
     let (n, rest) = count(words)?;
-    if n < 1 << 17 { Some((n, rest)) } else { None }
+    if n < limits::PIDS {
+        Some((n, rest))
+    } else {
+        None
+    }
 }
 
 /// A name's bytes, and the words behind it.
@@ -173,11 +177,11 @@ fn routine_head(words: Words<'_>) -> Option<RoutineHead<'_>>
 /// The number of parameters and whether there is a value, and the words behind them.
 fn params_and_value(words: Words<'_>) -> Option<(u32, bool, Words<'_>)>
     ensures found { IfSome result (λ x. words_left words.entry ≡ codes "params" ∷ decimal x.0 ∷ value_name x.1 ∷ words_left x.2) }
-    ensures range { IfSome result (λ x. x.0 ≤ 31) }
-    ensures each { (n : ℕ) (v : Bool) (ws : List (List ℕ)) → n ≤ 31 → words_left words.entry ≡ codes "params" ∷ decimal n ∷ value_name v ∷ ws → AreRead result n v ws }
+    ensures range { IfSome result (λ x. x.0 ≤ max_parameters) }
+    ensures each { (n : ℕ) (v : Bool) (ws : List (List ℕ)) → n ≤ max_parameters → words_left words.entry ≡ codes "params" ∷ decimal n ∷ value_name v ∷ ws → AreRead result n v ws }
 {
     let (params, words) = counted(words, b"params")?;
-    if params > 31 {
+    if params > limits::PARAMETERS {
         return None;
     }
     let (value, words) = value(words)?;
@@ -209,11 +213,11 @@ fn value_named(word: &[u8]) -> Option<bool>
 /// The numbers of registers and of entries, and the words behind them.
 fn regs_and_entry(words: Words<'_>) -> Option<(u32, u32, Words<'_>)>
     ensures found { IfSome result (λ x. words_left words.entry ≡ codes "regs" ∷ decimal x.0 ∷ codes "entry" ∷ decimal x.1 ∷ words_left x.2) }
-    ensures range { IfSome result (λ x. (x.0 ≤ 2 ^ 15) × (x.1 < 2 ^ 32)) }
-    ensures each { (n m : ℕ) (ws : List (List ℕ)) → n ≤ 2 ^ 15 → m < 2 ^ 32 → words_left words.entry ≡ codes "regs" ∷ decimal n ∷ codes "entry" ∷ decimal m ∷ ws → AreRead result n m ws }
+    ensures range { IfSome result (λ x. (x.0 ≤ max_registers) × (x.1 < 2 ^ 32)) }
+    ensures each { (n m : ℕ) (ws : List (List ℕ)) → n ≤ max_registers → m < 2 ^ 32 → words_left words.entry ≡ codes "regs" ∷ decimal n ∷ codes "entry" ∷ decimal m ∷ ws → AreRead result n m ws }
 {
     let (regs, words) = counted(words, b"regs")?;
-    if regs > 1 << 15 {
+    if regs > limits::REGISTERS {
         return None;
     }
     let (entry, words) = counted(words, b"entry")?;

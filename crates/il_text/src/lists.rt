@@ -2,6 +2,7 @@
 ghost use Rattle.std.specs.Prelude.{◌≡◌, ℕ, ◌<◌, ◌≤◌, ◌^◌, List, IfOk, IfSome, length, map, sum};
 ghost use Rattle.std.specs.Fmt.{decimal};
 ghost use Rattle.hlo_num.specs.declared.word.Word.{Word};
+ghost use Rattle.il_core.specs.Limits.{max_arrays, max_elements, max_parameters};
 ghost use Rattle.il_core.specs.Object.{IsTrimmed};
 ghost use Rattle.il_core.specs.Ranges.{AreWords, AreConstants};
 ghost use Rattle.il_core.specs.Text.{reg, word, arrays_parts, init_parts};
@@ -10,28 +11,20 @@ ghost use Rattle.il_text.specs.Words.{words_left};
 use crate::operands::{constant, count, register};
 use crate::words::{Words, after, is_done};
 use hlo_num::{Seq, Word};
+use il_core::limits;
 use std::alloc::{AllocError, Global};
-
-/// The most arguments of a call.
-const MAX_ARGS: usize = 31;
-
-/// The most local arrays of a routine.
-const MAX_ARRAYS: usize = 1 << 12;
-
-/// The most elements of a routine's local arrays.
-const MAX_ELEMENTS: u32 = 1 << 20;
 
 /// The arguments of a call.
 pub(crate) fn arguments(alloc: Global, words: Words<'_>) -> Result<Option<Seq<u32>>, AllocError>
     ensures found { IfOk result (λ o. IfSome o (λ args. words_left words.entry ≡ map reg args)) }
-    ensures few { IfOk result (λ o. IfSome o (λ args. length args ≤ 31)) }
+    ensures few { IfOk result (λ o. IfSome o (λ args. length args ≤ max_parameters)) }
     ensures range { IfOk result (λ o. IfSome o (λ args. AreWords args)) }
-    ensures each { IfOk result (λ o. (args : List ℕ) → AreWords args → length args ≤ 31 → words_left words.entry ≡ map reg args → o ≡ Some args) }
+    ensures each { IfOk result (λ o. (args : List ℕ) → AreWords args → length args ≤ max_parameters → words_left words.entry ≡ map reg args → o ≡ Some args) }
 {
     let mut args = Seq::new(alloc);
     let mut left = words;
     while !is_done(left) {
-        if args.len() == MAX_ARGS {
+        if args.len() == limits::PARAMETERS as usize {
             return Ok(None);
         }
         let Some((n, rest)) = register(left) else {
@@ -46,8 +39,8 @@ pub(crate) fn arguments(alloc: Global, words: Words<'_>) -> Result<Option<Seq<u3
 /// The numbers of elements of a routine's local arrays, behind their word, where there are any.
 pub(crate) fn arrays(alloc: Global, words: Words<'_>) -> Result<Option<Seq<u32>>, AllocError>
     ensures found { IfOk result (λ o. IfSome o (λ lens. words_left words.entry ≡ arrays_parts lens)) }
-    ensures few { IfOk result (λ o. IfSome o (λ lens. (length lens ≤ 2 ^ 12) × (sum lens ≤ 2 ^ 20))) }
-    ensures each { IfOk result (λ o. (lens : List ℕ) → AreWords lens → length lens ≤ 2 ^ 12 → sum lens ≤ 2 ^ 20 → words_left words.entry ≡ arrays_parts lens → o ≡ Some lens) }
+    ensures few { IfOk result (λ o. IfSome o (λ lens. (length lens ≤ max_arrays) × (sum lens ≤ max_elements))) }
+    ensures each { IfOk result (λ o. (lens : List ℕ) → AreWords lens → length lens ≤ max_arrays → sum lens ≤ max_elements → words_left words.entry ≡ arrays_parts lens → o ≡ Some lens) }
 {
     if is_done(words) {
         return Ok(Some(Seq::new(alloc)));
@@ -61,20 +54,20 @@ pub(crate) fn arrays(alloc: Global, words: Words<'_>) -> Result<Option<Seq<u32>>
 /// Numbers of elements of local arrays.
 fn lengths(alloc: Global, words: Words<'_>) -> Result<Option<Seq<u32>>, AllocError>
     ensures found { IfOk result (λ o. IfSome o (λ lens. words_left words.entry ≡ map decimal lens)) }
-    ensures few { IfOk result (λ o. IfSome o (λ lens. (length lens ≤ 2 ^ 12) × (sum lens ≤ 2 ^ 20))) }
-    ensures each { IfOk result (λ o. (lens : List ℕ) → AreWords lens → length lens ≤ 2 ^ 12 → sum lens ≤ 2 ^ 20 → words_left words.entry ≡ map decimal lens → o ≡ Some lens) }
+    ensures few { IfOk result (λ o. IfSome o (λ lens. (length lens ≤ max_arrays) × (sum lens ≤ max_elements))) }
+    ensures each { IfOk result (λ o. (lens : List ℕ) → AreWords lens → length lens ≤ max_arrays → sum lens ≤ max_elements → words_left words.entry ≡ map decimal lens → o ≡ Some lens) }
 {
     let mut lens = Seq::new(alloc);
     let mut elements = 0;
     let mut left = words;
     while !is_done(left) {
-        if lens.len() == MAX_ARRAYS {
+        if lens.len() == limits::ARRAYS as usize {
             return Ok(None);
         }
         let Some((len, rest)) = count(left) else {
             return Ok(None);
         };
-        if len > MAX_ELEMENTS - elements {
+        if len > limits::ELEMENTS - elements {
             return Ok(None);
         }
         elements += len;

@@ -11,9 +11,7 @@ ghost use Rattle.il_text.specs.Words.{words_left, IsRead};
 use crate::numbers::{number, numbered, signed};
 use crate::words::{Words, is_done, next};
 use hlo_num::{Ty, Word};
-
-/// The number of programs' PIDs.
-const PIDS: u32 = 1 << 17;
+use il_core::limits;
 
 /// A register, and the words behind it.
 pub(crate) fn register(words: Words<'_>) -> Option<(u32, Words<'_>)>
@@ -67,7 +65,11 @@ pub(crate) fn global(words: Words<'_>) -> Option<(u32, Words<'_>)>
 {
     let (word, rest) = next(words)?;
     let n = numbered(word, b'g')?;
-    if n < PIDS { Some((n, rest)) } else { None }
+    if n < limits::PIDS {
+        Some((n, rest))
+    } else {
+        None
+    }
 }
 
 /// A word, and the words behind it.

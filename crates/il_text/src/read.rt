@@ -1,5 +1,6 @@
 //! Reading the text of a program.
 ghost use Rattle.std.specs.Prelude.{◌≡◌, ◌+◌, ◌^◌, ◌≤◌, [], IfOk, IfErr, OnOk, None, length, sum_by};
+ghost use Rattle.il_core.specs.Limits.{max_routines};
 ghost use Rattle.il_core.specs.Text as text;
 ghost use Rattle.il_core.specs.Valid.{IsProgram};
 ghost use Rattle.il_text.specs.Assembled.{first_out_of_order};
@@ -49,7 +50,7 @@ fn in_order(
     objects: &[NamedObject],
     routines: &[NamedRoutine],
 ) -> Result<(), IlFault>
-    requires { length routines.now ≤ 2 ^ 12 }
+    requires { length routines.now ≤ max_routines }
     ensures ok { OnOk result (first_out_of_order objects.now routines.now ≡ None) }
     ensures fault { IfErr result (λ e. IsOrderFault objects.now routines.now e) }
 {
@@ -91,7 +92,7 @@ fn capped(line: u64) -> u32
 
 /// How many lines routines have.
 fn named_lines(routines: &[NamedRoutine]) -> u64
-    requires { length routines.now ≤ 2 ^ 12 }
+    requires { length routines.now ≤ max_routines }
     ensures lines { result ≡ sum_by (λ r. line_count r.routine) routines.now }
     ensures bound { result ≤ 2 ^ 30 }
 {
@@ -104,7 +105,7 @@ fn named_lines(routines: &[NamedRoutine]) -> u64
 
 /// How many lines routines have.
 fn lines_of(routines: &[Routine]) -> u64
-    requires { length routines.now ≤ 2 ^ 12 }
+    requires { length routines.now ≤ max_routines }
     ensures lines { result ≡ sum_by line_count routines.now }
     ensures bound { result ≤ 2 ^ 30 }
 {
@@ -117,7 +118,7 @@ fn lines_of(routines: &[Routine]) -> u64
 
 /// Nothing where a program's routines are valid and it has a `main`, else what is wrong first.
 fn check(program: &IlProgram) -> Result<(), IlFault>
-    requires { length program.now.routines ≤ 2 ^ 12 }
+    requires { length program.now.routines ≤ max_routines }
     ensures ok { OnOk result (IsFine program.now) }
     ensures fault { IfErr result (λ e. IsCheckFault program.now e) }
 {

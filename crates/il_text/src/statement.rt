@@ -1,7 +1,7 @@
 //! Reading the lines inside a block.
 ghost use Rattle.std.specs.Prelude.{◌≡◌, ℕ, ◌^◌, ◌<◌, ◌≤◌, [], ◌∷◌, List, IfOk, IfSome, length, map, codes, option_to_list};
 ghost use Rattle.std.specs.Fmt.{decimal};
-ghost use Rattle.il_core.specs.Limits.{IsPid};
+ghost use Rattle.il_core.specs.Limits.{IsPid, max_parameters};
 ghost use Rattle.il_core.specs.Ranges.{AreWords};
 ghost use Rattle.il_core.specs.Text.{gets, gets_if_some, reg};
 ghost use Rattle.il_core.specs.declared.instr.Instr.TheVariants as instr;
@@ -19,7 +19,7 @@ use crate::operands::{
     only_block, only_constant, only_global, only_register, ranges, register_blocks, registers,
 };
 use crate::words::{Words, after, is_done, next};
-use il_core::{End, Instr};
+use il_core::{End, Instr, limits};
 use std::alloc::{AllocError, Global};
 
 /// What stands on a line inside a block.
@@ -96,7 +96,7 @@ fn call(alloc: Global, dest: Option<u32>, words: Words<'_>) -> Result<Option<Sta
     requires { AreWords (option_to_list dest) }
     ensures found { IfOk result (λ o. IfSome o (λ s. gets_if_some dest (codes "call" ∷ words_left words.entry) ≡ statement_parts s)) }
     ensures fit { IfOk result (λ o. IfSome o IsFitStatement) }
-    ensures each { IfOk result (λ o. (p n : ℕ) (args : List ℕ) → IsPid p → n < 2 ^ 32 → AreWords args → length args ≤ 31 → words_left words.entry ≡ decimal p ∷ codes "count" ∷ decimal n ∷ map reg args → o ≡ Some (Statement.Instr (instr.Call dest p n args))) }
+    ensures each { IfOk result (λ o. (p n : ℕ) (args : List ℕ) → IsPid p → n < 2 ^ 32 → AreWords args → length args ≤ max_parameters → words_left words.entry ≡ decimal p ∷ codes "count" ∷ decimal n ∷ map reg args → o ≡ Some (Statement.Instr (instr.Call dest p n args))) }
 {
     let Some((callee, count, words)) = callee_and_count(words) else {
         return Ok(None);
@@ -119,7 +119,7 @@ fn callee_and_count(words: Words<'_>) -> Option<(u32, u32, Words<'_>)>
     ensures each { (p n : ℕ) (ws : List (List ℕ)) → IsPid p → n < 2 ^ 32 → words_left words.entry ≡ decimal p ∷ codes "count" ∷ decimal n ∷ ws → IsCallHead result p n ws }
 {
     let (callee, words) = count(words)?;
-    if callee >= 1 << 17 {
+    if callee >= limits::PIDS {
         return None;
     }
     let words = after(words, b"count")?;

@@ -5,6 +5,7 @@ use Rattle.std.specs.Map.{values_of}
 use Rattle.std.proofs.Math.Seq.{take-suc}
 use Rattle.std.proofs.lemmas.Bool.Decides.{nat_tests}
 use Rattle.hlo_num.specs.declared.word.Word.{Word}
+use Rattle.il_core.specs.Limits.{max_parameters}
 use Rattle.il_core.specs.Object.{ends_with_zero, IsTrimmed}
 use Rattle.il_core.specs.Shapes.{IsRising, IsRisingFrom}
 use Rattle.il_core.specs.declared.shape.Shape.{Shape}
@@ -59,7 +60,7 @@ pub objects_more : (i : ℕ) (es : Table) (k : List ℕ) (s : Symbol) → slice_
 objects_more i es k s h = ap (λ m. objects (take m es)) (add-one i) ∙ objects_suc 0 i es k s h ∙ ap (λ m. objects (take i es) ++ objects_at m s) (let q : 0 + i ≡ i = omega arith in q)
 
 pub few_params : (es : Table) (i : ℕ) (s : Symbol) → list_any is_wide (values_of es) ≡ false → slice_get (values_of es) i ≡ Some s → parameters s.entity < 2 ^ 32
-few_params es i s h k = let n = any_none is_wide (values_of es) i s h k in let m = at_most 31 (parameters s.entity) n in omega arith
+few_params es i s h k = let n = any_none is_wide (values_of es) i s h k in let m = at_most max_parameters (parameters s.entity) n in omega arith
 
 before_ends : (w : Word) (vs : List Word) → ends_with_zero vs ≡ false → ends_with_zero (before w vs) ≡ false
 before_ends w [] h = (elim (w.0 == 0) as (λ b. (w.0 == 0) ≡ b → ends_with_zero (if b then [] else w ∷ []) ≡ false) [ true ↦ λ e. refl | false ↦ λ e. e ]) refl

@@ -2,6 +2,7 @@
 use Rattle.std.proofs.Common.{◌≡◌, ℕ, ◌≤◌, Bool, true, false, ◌&&◌, ◌==◌, if◌then◌else◌, List, length, nat_lt, Some, None, refl, ap, ◌∙◌, arith}
 use Rattle.std.proofs.lemmas.Bool.Decides.{nat_tests}
 use Rattle.hlo_num.specs.declared.word.Word.{Word}
+use Rattle.il_core.specs.Limits.{max_parameters}
 use Rattle.sym_tables.specs.declared.entity.Entity.{Entity}
 use Rattle.sym_tables.specs.declared.entity.Entity.TheVariants.{Function, Scalar, Array}
 use Rattle.sym_tables.specs.declared.symbol.Standing.{Standing}
@@ -51,7 +52,7 @@ fits_met standing said init s h k l =
     elim (is_defined standing) as (λ b. length (if b then init else s.init) ≤ words (composite s.entity said)) [ true ↦ omega arith | false ↦ omega arith ]
 
 pub narrow_met : (standing : Standing) (said : Entity) (init : List Word) (s : Symbol) → compatible s.entity said ≡ true → is_wide s ≡ false → is_wide (met standing said init (Some s)) ≡ false
-narrow_met standing said init s h k = ap (nat_lt 31) (params_composite s.entity said h) ∙ k
+narrow_met standing said init s h k = ap (nat_lt max_parameters) (params_composite s.entity said h) ∙ k
 
 later_declared : (a b : Standing) → is_declared a ≡ false → is_declared (later a b) ≡ false
 later_declared Declared b h = let c : true ≡ false = h in absurd cc

@@ -1,9 +1,10 @@
 -- When a declaration or definition is refused, by what the code has found.
-use Rattle.std.proofs.Common.{◌≡◌, ℕ, ◌+◌, ◌-◌, ◌≤◌, ◌^◌, Bool, true, false, ◌&&◌, ◌||◌, List, [], ◌∷◌, ◌++◌, length, nat_lt, Option, Some, None, refl, sym, ap, ◌∙◌, arith}
+use Rattle.std.proofs.Common.{◌≡◌, ℕ, ◌+◌, ◌-◌, ◌≤◌, Bool, true, false, ◌&&◌, ◌||◌, List, [], ◌∷◌, ◌++◌, length, nat_lt, Option, Some, None, refl, sym, ap, ◌∙◌, arith}
 use Rattle.std.specs.List.{list_any}
 use Rattle.std.specs.Map.{values_of}
 use Rattle.hlo_num.specs.declared.word.Word.{Word}
 use Rattle.indexmap.specs.Layout.{set_value_at, length-set_value_at}
+use Rattle.il_core.specs.Limits.{max_elements, max_names, max_parameters, max_routines}
 use Rattle.sym_tables.specs.declared.entity.Entity.{Entity}
 use Rattle.sym_tables.specs.declared.fault.SymFault.TheVariants.{TypeClash, Duplicate, TooMany}
 use Rattle.sym_tables.specs.declared.symbol.Standing.{Standing}
@@ -39,7 +40,7 @@ module _ (standing : Standing) (said : Entity) (init : List Word) (syms : Table)
 -- the limits by the numbers, at a known name
 pub past_met : (standing : Standing) (said : Entity) (init : List Word) (syms : Table) (at : ℕ) (s : Symbol) (r e least n r' e' p : ℕ) (b : Bool) → IsKept syms r e least → n ≡ length syms → symbol_at syms at ≡ Some s → compatible s.entity said ≡ true →
     (let v = met standing said init (Some s) in (r' + routine_part s.entity s.standing ≡ r + routine_part v.entity v.standing) × (e' + element_part s.entity s.standing ≡ e + element_part v.entity v.standing) × (p ≡ parameters v.entity)) →
-    b ≡ (nat_lt (2 ^ 16) n || nat_lt (2 ^ 12) r' || nat_lt (2 ^ 20) e' || nat_lt 31 p) →
+    b ≡ (nat_lt max_names n || nat_lt max_routines r' || nat_lt max_elements e' || nat_lt max_parameters p) →
     is_past_limits (set_met standing said init syms at (Some s)) ≡ b
 past_met standing said init syms at s r e least n r' e' p b kept len k h nums is =
     let v : Symbol = met standing said init (Some s) in
@@ -50,18 +51,18 @@ past_met standing said init syms at s r e least n r' e' p b kept len k h nums is
     let a = routines_set syms at s v k in let c = elements_set syms at s v k in
     let n0 = nums.0 in let n1 = nums.1 in
     past_is (set_value_at syms at v) n r' e' p (length-set_value_at syms at v ∙ sym len) (omega arith) (omega arith)
-    (ap (list_any is_wide) (values_set syms at v) ∙ any_set is_wide (values_of syms) at v w.narrow new ∙ sym new ∙ ap (nat_lt 31) (sym nums.2))
+    (ap (list_any is_wide) (values_set syms at v) ∙ any_set is_wide (values_of syms) at v w.narrow new ∙ sym new ∙ ap (nat_lt max_parameters) (sym nums.2))
     ∙ sym is
 
 -- and at a new one
 pub past_added : (syms : Table) (name : List ℕ) (v : Symbol) (r e least n p : ℕ) (b : Bool) → IsKept syms r e least → n ≡ length syms + 1 → p ≡ parameters v.entity →
-    b ≡ (nat_lt (2 ^ 16) n || nat_lt (2 ^ 12) (r + routine_part v.entity v.standing) || nat_lt (2 ^ 20) (e + element_part v.entity v.standing) || nat_lt 31 p) →
+    b ≡ (nat_lt max_names n || nat_lt max_routines (r + routine_part v.entity v.standing) || nat_lt max_elements (e + element_part v.entity v.standing) || nat_lt max_parameters p) →
     is_past_limits (syms ++ (name, v) ∷ []) ≡ b
 past_added syms name v r e least n p b kept len par is =
     let rc = kept.routines_counted in let ec = kept.elements_counted in
     let a = routines_added syms name v in let c = elements_added syms name v in
     past_is (syms ++ (name, v) ∷ []) n (r + routine_part v.entity v.standing) (e + element_part v.entity v.standing) p (length_added syms name v ∙ sym len) (omega arith) (omega arith)
-    (wide_added syms name v (within syms kept.sound.limits) ∙ ap (nat_lt 31) (sym par))
+    (wide_added syms name v (within syms kept.sound.limits) ∙ ap (nat_lt max_parameters) (sym par))
     ∙ sym is
 
 -- the numbers that the code computes for a known name

@@ -1,10 +1,11 @@
 -- The names of the program: a list of names and what is known of them, in the order of their first mention. A name's
 -- place is its PID.
-use Rattle.std.specs.Prelude.{◌≡◌, ℕ, zero, suc, ◌^◌, Bool, true, false, ◌&&◌, ◌||◌, List, [], ◌∷◌, length, take, Option, Some, None, if◌then◌else◌, nat_lt, nat_eq, sum_by, position}
+use Rattle.std.specs.Prelude.{◌≡◌, ℕ, zero, suc, Bool, true, false, ◌&&◌, ◌||◌, List, [], ◌∷◌, length, take, Option, Some, None, if◌then◌else◌, nat_lt, nat_eq, sum_by, position}
 use Rattle.std.specs.Cmp.Lexicographic.{pointwise}
 use Rattle.std.specs.List.{list_any, position_or_len, slice_get}
 use Rattle.std.specs.Map.{keys_of, values_of, lookup}
 use Rattle.hlo_num.specs.declared.word.Word.{Word}
+use Rattle.il_core.specs.Limits.{max_elements, max_names, max_parameters, max_routines}
 use Rattle.indexmap.specs.IndexMap.{insert_entry}
 use Rattle.sym_tables.specs.declared.entity.Entity.{Entity}
 use Rattle.sym_tables.specs.declared.symbol.Standing.{Standing}
@@ -67,13 +68,13 @@ routines syms = sum_by (λ s. routine_part s.entity s.standing) (values_of syms)
 abbrev pub elements : Table → ℕ
 elements syms = sum_by (λ s. element_part s.entity s.standing) (values_of syms)
 
--- some function has more than 31 parameters
+-- some function has too many parameters
 abbrev pub is_wide : Symbol → Bool
-is_wide s = nat_lt 31 (parameters s.entity)
+is_wide s = nat_lt max_parameters (parameters s.entity)
 
--- more than 65,536 names, 4,096 routines, 1,048,576 array elements, or 31 parameters of a function
+-- too many names, routines, array elements, or parameters of a function
 abbrev pub is_past_limits : Table → Bool
-is_past_limits syms = nat_lt (2 ^ 16) (length syms) || nat_lt (2 ^ 12) (routines syms) || nat_lt (2 ^ 20) (elements syms) || list_any is_wide (values_of syms)
+is_past_limits syms = nat_lt max_names (length syms) || nat_lt max_routines (routines syms) || nat_lt max_elements (elements syms) || list_any is_wide (values_of syms)
 
 -- incompatible with what is known
 abbrev pub clashes : Option Symbol → Entity → Bool

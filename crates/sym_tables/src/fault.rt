@@ -7,8 +7,8 @@ pub enum SymFault {
     TypeClash,
     /// A defined name is defined again.
     Duplicate,
-    /// There would be more than 65,536 names, 4,096 routines, 1,048,576 array elements of defined or
-    /// tentative arrays, or 31 parameters of a function.
+    /// There would be more than the limits allow: of names, routines, array elements of defined or
+    /// tentative arrays, or parameters of a function.
     TooMany,
     /// There is no memory for a new name.
     Memory,

@@ -2,6 +2,7 @@
 ghost use Rattle.std.specs.Prelude.{◌≡◌, ◌++◌, ◌≤◌, ◌<◌, ◌^◌, false, length, IfOk, OnOk};
 ghost use Rattle.std.specs.List.{list_any, AllByRecursion, IsDistinct};
 ghost use Rattle.std.specs.Map.{keys_of, values_of};
+ghost use Rattle.il_core.specs.Limits.{max_names};
 ghost use Rattle.sym_tables.specs.Entities.{parameters};
 ghost use Rattle.sym_tables.specs.Listing.{is_object, objects, objects_at, shape_of, shapes, trimmed};
 ghost use Rattle.sym_tables.specs.Sound.{FitsWords};
@@ -19,7 +20,7 @@ pub(crate) fn shape_rows(
     alloc: Global,
     symbols: &IndexMap<Name, Symbol>,
 ) -> Result<Vec<ShapeRow>, AllocError>
-    requires few { length symbols.now.entries ≤ 2 ^ 16 }
+    requires few { length symbols.now.entries ≤ max_names }
     requires narrow { list_any is_wide (values_of symbols.now.entries) ≡ false }
     ensures rows { IfOk result (λ rows. rows.items ≡ shapes symbols.now.entries) }
     ensures distinct { IsDistinct same_name (keys_of symbols.now.entries) }
@@ -59,7 +60,7 @@ pub(crate) fn objects_of(
     alloc: Global,
     symbols: &IndexMap<Name, Symbol>,
 ) -> Result<Vec<Object>, AllocError>
-    requires few { length symbols.now.entries ≤ 2 ^ 16 }
+    requires few { length symbols.now.entries ≤ max_names }
     requires inits { AllByRecursion FitsWords (values_of symbols.now.entries) }
     ensures { IfOk result (λ objs. objs.items ≡ objects symbols.now.entries) }
 {

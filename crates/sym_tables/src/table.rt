@@ -4,6 +4,7 @@ ghost use Rattle.std.specs.Option.{option_map, option_copied};
 ghost use Rattle.std.specs.List.{IsDistinct};
 ghost use Rattle.std.specs.Map.{keys_of, lookup};
 ghost use Rattle.indexmap.specs.Layout.{set_value_at};
+ghost use Rattle.il_core.specs.Limits.{max_elements, max_names, max_parameters, max_routines};
 ghost use Rattle.sym_tables.specs.Entities.{words};
 ghost use Rattle.sym_tables.specs.Listing.{objects, shapes};
 ghost use Rattle.sym_tables.specs.Sound.{IsSound};
@@ -15,22 +16,10 @@ use crate::fault::SymFault;
 use crate::listing::{objects_of, shape_rows};
 use crate::symbol::{Standing, Symbol, element_part, routine_part};
 use hlo_num::{Name, Seq, Word};
-use il_core::{Object, Shapes};
+use il_core::{Object, Shapes, limits};
 use indexmap::IndexMap;
 use std::alloc::{AllocError, Global};
 use std::marker::Model;
-
-/// How many names the modules of a program may have.
-const NAMES: usize = 65_536;
-
-/// How many routines a program may have.
-const ROUTINES: u32 = 4096;
-
-/// How many array elements the modules of a program may have together.
-const ELEMENTS: u64 = 1_048_576;
-
-/// How many parameters a function may have.
-const PARAMETERS: usize = 31;
 
 /// The names of the program over all modules, each with what it stands for, how far it is defined, its
 /// initial words, and whether it is used. A name's PID is its place in the order of first mention, from
@@ -100,9 +89,12 @@ fn repeats(standing: Standing, known: Standing) -> bool
 
 /// Whether so many names, routines, array elements or parameters are too many.
 fn is_too_many(names: usize, routines: u32, elements: u64, parameters: usize) -> bool
-    ensures { result ≡ (nat_lt (2 ^ 16) names || nat_lt (2 ^ 12) routines || nat_lt (2 ^ 20) elements || nat_lt 31 parameters) }
+    ensures { result ≡ (nat_lt max_names names || nat_lt max_routines routines || nat_lt max_elements elements || nat_lt max_parameters parameters) }
 {
-    names > NAMES || routines > ROUTINES || elements > ELEMENTS || parameters > PARAMETERS
+    names > limits::NAMES as usize
+        || routines > limits::ROUTINES
+        || elements > u64::from(limits::ELEMENTS)
+        || parameters > limits::PARAMETERS as usize
 }
 
 impl ProgramSyms {

@@ -1,7 +1,7 @@
 use Rattle.std.proofs.Common.{◌≤◌, ◌∙◌, ap, sym, subst, arith, length}
 use Rattle.std.proofs.lemmas.Result.{on_ok_weaker}
 use Rattle.std.specs.List.{AllByRecursion}
-use Rattle.compact_form.specs.Reading.{max_size}
+use Rattle.il_core.specs.Limits.{max_size}
 use Rattle.compact_form.specs.Routines.{few_blocks, small_blocks}
 use Rattle.compact_form.proofs.Written.{routine_written}
 use Rattle.compact_form.proofs.writing.put_routine.Goals as goal

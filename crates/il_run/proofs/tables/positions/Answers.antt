@@ -1,11 +1,12 @@
 use Rattle.std.proofs.Common.{ℕ, ◌∙◌, length, ap, arith, rules}
 use Rattle.std.proofs.lemmas.List.{length-replicate}
+use Rattle.il_core.specs.Limits.{max_pids}
 use Rattle.il_core.specs.Routine.{RoutineParts}
 use Rattle.il_run.proofs.Tabling.{positions_none, positions_step, positions_whole}
 use Rattle.il_run.proofs.tables.positions.Goals as goal
 
 pub back-init : goal.back-init
-back-init c = record { within = omega arith; count = ap length c.in_ok-position.ensures ∙ length-replicate {A = ℕ} 131072 0; each = positions_none _ _ _ (omega arith) }
+back-init c = record { within = omega arith; count = ap length c.in_ok-position.ensures ∙ length-replicate {A = ℕ} max_pids 0; each = positions_none _ _ _ (omega arith) }
 
 pub back-preserved : goal.back-preserved
 back-preserved c = record {

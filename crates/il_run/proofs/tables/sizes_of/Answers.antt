@@ -1,11 +1,12 @@
 use Rattle.std.proofs.Common.{ℕ, ◌∙◌, length, ap, arith, rules}
 use Rattle.std.proofs.lemmas.List.{length-replicate}
+use Rattle.il_core.specs.Limits.{max_pids}
 use Rattle.il_core.specs.Object.{ObjectParts}
 use Rattle.il_run.proofs.Tabling.{sizes_none, sizes_step, sizes_whole, small_at}
 use Rattle.il_run.proofs.tables.sizes_of.Goals as goal
 
 pub back-init : goal.back-init
-back-init c = record { within = omega arith; count = ap length c.in_ok-sizes.ensures ∙ length-replicate {A = ℕ} 131072 0; each = sizes_none _ _ 131072 _ c.in_ok-sizes.ensures (omega arith) }
+back-init c = record { within = omega arith; count = ap length c.in_ok-sizes.ensures ∙ length-replicate {A = ℕ} max_pids 0; each = sizes_none _ _ max_pids _ c.in_ok-sizes.ensures (omega arith) }
 
 pub back-preserved : goal.back-preserved
 back-preserved c =

@@ -14,7 +14,7 @@ loop-left-preserved c =
     let len = length_push c.loop-left.args c.push.new.self c.in-Some.n c.in_ok-push.ensures.ok in
     record {
       read = one_more reg IsWord (words_left c.args.words) (words_left c.loop-left.left) (words_left c.in-Some.rest) c.loop-left.args c.push.new.self c.in-Some.n c.loop-left.invariant.read c.in-Some.ensures.range c.in-Some.ensures.found c.in-Some.ensures.each c.in_ok-push.ensures.ok;
-      few = omega (arith, len, c.len.ensures, c.loop-left.invariant.few, c.if-len-eq-MAX_ARGS.false);
+      few = omega (arith, len, c.len.ensures, c.loop-left.invariant.few, c.if-len.false);
     }
 
 pub returns-clause-each : goal.returns-clause-each

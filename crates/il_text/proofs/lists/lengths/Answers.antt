@@ -21,7 +21,7 @@ loop-left-preserved c =
     let total = sum_push c.loop-left.lens c.push.new.self c.in-Some.len c.in_ok-push.ensures.ok in
     record {
       read = one_more decimal IsWord (words_left c.args.words) (words_left c.loop-left.left) (words_left c.in-Some.rest) c.loop-left.lens c.push.new.self c.in-Some.len c.loop-left.invariant.read c.in-Some.ensures.range c.in-Some.ensures.found c.in-Some.ensures.each c.in_ok-push.ensures.ok;
-      few = omega (arith, len, c.len.ensures, c.loop-left.invariant.few, c.if-len-eq-MAX_ARRAYS.false);
+      few = omega (arith, len, c.len.ensures, c.loop-left.invariant.few, c.if-len.false);
       total = omega (arith, total, c.loop-left.invariant.total);
       small = omega (arith, total, c.loop-left.invariant.total, c.loop-left.invariant.small, c.if-len-elements.false);
     }

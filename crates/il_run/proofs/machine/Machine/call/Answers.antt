@@ -1,6 +1,7 @@
-use Rattle.std.proofs.Common.{arith, ap, sym, ℕ, ◌≡◌, ◌^◌, ◌<◌, ◌≤◌, length, ◌∙◌, subst, refl}
+use Rattle.std.proofs.Common.{arith, ap, sym, ℕ, ◌≡◌, ◌<◌, ◌≤◌, length, ◌∙◌, subst, refl}
 use Rattle.std.specs.Prelude.{slice_index, sum}
 use Rattle.std.specs.List.{AllByRecursion}
+use Rattle.il_core.specs.Limits.{max_size}
 use Rattle.il_core.specs.Routine.{RoutineParts}
 use Rattle.il_core.specs.Size.{blocks_size}
 use Rattle.il_core.specs.World.{each}
@@ -44,7 +45,7 @@ returns c =
     let same : routine_in c.args.p.now c.index-position.result.now ≡ c.index-as_slice-position.result = routine_read c.args.p.now c.as_slice.result.now c.index-position.result.now c.index-as_slice-position.result c.as_slice.ensures g.within c.index-as_slice-position.is in
     let viewed = c.called.view_is ∙ sym same in
     let elements : c.total-elements.result ≡ sum (routine_in c.args.p.now c.index-position.result.now).arrays = c.total-elements.ensures ∙ ap sum (c.requires.tabled.arrays _ _ g.within c.index.ensures).0 in
-    let few : blocks_size (routine_in c.args.p.now c.index-position.result.now).blocks ≤ 2 ^ 16 = subst (λ (r : RoutineParts). blocks_size r.blocks ≤ 2 ^ 16) viewed c.called.invariant.size in
+    let few : blocks_size (routine_in c.args.p.now c.index-position.result.now).blocks ≤ max_size = subst (λ (r : RoutineParts). blocks_size r.blocks ≤ max_size) viewed c.called.invariant.size in
     let vs = each (frame_in c.args.self.now.store c.args.routine.now).regs c.args.args.now in
     let enters : Enters c.args.self.now.store c.enter.new.self vs (routine_in c.args.p.now c.index-position.result.now).regs (sum (routine_in c.args.p.now c.index-position.result.now).arrays) =
     subst (λ (n : ℕ). Enters c.args.self.now.store c.enter.new.self vs (routine_in c.args.p.now c.index-position.result.now).regs n) elements

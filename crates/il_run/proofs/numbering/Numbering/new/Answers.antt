@@ -1,4 +1,5 @@
-use Rattle.std.proofs.Common.{◌≡◌, ◌≤◌, ◌^◌, ◌∙◌, List, ap, arith, sym, subst}
+use Rattle.std.proofs.Common.{◌≡◌, ◌≤◌, ◌∙◌, List, ap, arith, sym, subst}
+use Rattle.il_core.specs.Limits.{max_size}
 use Rattle.il_core.specs.declared.instr.Block.{Block}
 use Rattle.il_core.specs.Routine.{RoutineParts}
 use Rattle.il_core.specs.Size.{blocks_size}
@@ -8,7 +9,7 @@ use Rattle.il_run.proofs.numbering.Numbering.new.Goals as goal
 pub number-requires : goal.number-requires
 number-requires c =
     let blocks : c.as_slice-blocks.result.now ≡ c.routine.inside.blocks = c.as_slice-blocks.ensures in
-    let few : blocks_size c.as_slice-blocks.result.now ≤ 2 ^ 16 = subst (λ (xs : List Block). blocks_size xs ≤ 2 ^ 16) (sym blocks) c.routine.invariant.size in
+    let few : blocks_size c.as_slice-blocks.result.now ≤ max_size = subst (λ (xs : List Block). blocks_size xs ≤ max_size) (sym blocks) c.routine.invariant.size in
     omega (arith, few, number_fits c.as_slice-blocks.result.now c.loop-block.block-index c.loop-block.next c.block-item.result c.as_slice.result.now c.loop-block-test.true c.block-item.is c.as_slice.ensures c.loop-block.invariant.next)
 
 pub loop-block-preserved : goal.loop-block-preserved

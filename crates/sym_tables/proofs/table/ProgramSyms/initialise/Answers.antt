@@ -1,4 +1,4 @@
-use Rattle.std.proofs.Common.{ap, ap₂, ◌∙◌, ◌≤◌, sym, subst}
+use Rattle.std.proofs.Common.{ap, ◌∙◌, ◌≤◌, sym, subst}
 use Rattle.indexmap.specs.Layout.{set_value_at}
 use Rattle.sym_tables.specs.Sound.{IsKept}
 use Rattle.sym_tables.specs.Table.{initialised}

@@ -8,8 +8,8 @@ use Rattle.il_core.specs.Routine.{RoutineParts}
 use Rattle.il_core.specs.Program.{routine_at}
 use Rattle.il_core.specs.World.{World, OutOfTurns, Outcome, Returns, Ends, Stuck, ended, turn, turn_at}
 use Rattle.il_core.specs.Meaning.{Frame, frame_of, Lengths, lengths, Next, Act, step, steps, sites_in, sites_of, finish, enter, Recorder, noted, begin, exec, act_noting}
-use Rattle.il_run.specs.Blocks.{sites_before, from_block, calls_of, backs_of, run_from}
-use Rattle.il_run.proofs.Bound.{outcome_by, turn_alike, begin_alike, enter_alike, exec_alike}
+use Rattle.il_core.specs.Places.{sites_before, from_block, calls_of, backs_of, run_from}
+use Rattle.il_core.proofs.Bound.{outcome_by, turn_alike, begin_alike, enter_alike, exec_alike}
 
 same_outcome : {S : Type 0} (o : Outcome S) → outcome_by (λ l. l) o ≡ o
 same_outcome (Returns v w) = refl

@@ -1,8 +1,8 @@
 -- What a valid program has: the routine of each call, and the words of each object that is named.
-use Rattle.std.proofs.Common.{◌≡◌, ℕ, ◌^◌, ◌<◌, List, [], ◌∷◌, map, Bool, true, false, refl, ap, subst, sym, ◌∙◌, arith, inl, inr, eq-eqb, ne_eqb}
-use Rattle.std.specs.Prelude.{◌⊎◌, if◌then◌else◌, Option, Some, None}
+use Rattle.std.proofs.Common.{◌≡◌, ℕ, ◌<◌, List, [], ◌∷◌, map, Bool, true, false, refl, ap, subst, sym, ◌∙◌, arith, inl, inr}
+use Rattle.std.specs.Prelude.{◌⊎◌, Option, Some, None}
 use Rattle.std.specs.List.{AllByRecursion}
-use Rattle.std.proofs.lemmas.Bool.{cases_eq, false≢true}
+use Rattle.std.proofs.lemmas.Bool.{false≢true}
 use Rattle.std.proofs.lemmas.List.{length-map}
 use Rattle.std.proofs.lemmas.Option.{none-some, same_Some}
 use Rattle.il_core.specs.declared.shape.ShapeRow.{ShapeRow}
@@ -12,59 +12,13 @@ use Rattle.il_core.specs.declared.program.IlProgram.{IlProgram}
 use Rattle.il_core.specs.Object.{ObjectParts}
 use Rattle.il_core.specs.Routine.{RoutineParts}
 use Rattle.il_core.specs.Program.{found, routine_at, shape_of_row, shape_at, words_in, words_of}
-use Rattle.il_core.specs.Shapes.{IsRising, IsRisingFrom}
 use Rattle.il_core.specs.Valid.{IsProgram, IsValid, IsObjectShape, IsRoutineShape, NamesObject}
-use Rattle.il_core.specs.Limits.{IsPid}
-use Rattle.il_run.proofs.Cover.{In, Above, Rises, Covers, covers}
+use Rattle.il_core.specs.Limits.{IsPid, max_pids}
+use Rattle.il_core.proofs.Cover.{In, Covers, covers}
+use Rattle.il_core.proofs.Found.{in_found, found_all, found_in, rising}
 
-module _ {X : Type 0} (number : X → ℕ) where
-  pub record Found (q : ℕ) (xs : List X) : Type 0 where
-    pub one : X
-    pub is : found number q xs ≡ Some one
-
-  pub found_here : (q : ℕ) (x : X) (xs : List X) → number x ≡ q → found number q (x ∷ xs) ≡ Some x
-  found_here q x xs e = ap (λ (c : Bool). if c then Some x else found number q xs) (eq-eqb (number x) q e)
-
-  pub found_there : (q : ℕ) (x : X) (xs : List X) → (number x ≡ q → ⊥) → found number q (x ∷ xs) ≡ found number q xs
-  found_there q x xs ne = ap (λ (c : Bool). if c then Some x else found number q xs) (ne_eqb (number x) q ne)
-
-  pub in_found : (q : ℕ) (xs : List X) → In q (map number xs) → Found q xs
-  in_found q [] h = absurd h
-  in_found q (x ∷ xs) h =
-      elim (cases_eq (number x) q) [
-        | inl e ↦ record { one = x; is = found_here q x xs e }
-        | inr ne ↦ (elim h [ inl e ↦ absurd (ne (sym e)) | inr h1 ↦ (let r = in_found q xs h1 in record { one = r.one; is = found_there q x xs ne ∙ r.is }) ])
-      ]
-
-  pub found_all : (P : X → Type 0) (q : ℕ) (xs : List X) (x : X) → AllByRecursion P xs → found number q xs ≡ Some x → P x × (number x ≡ q)
-  found_all P q [] x all e = absurd (none-some x e)
-  found_all P q (y ∷ ys) x all e =
-      elim (cases_eq (number y) q) [
-        | inl h ↦ (let same : y ≡ x = cc (found_here q y ys h) in (subst P same all.0, subst (λ (z : X). number z ≡ q) same h))
-        | inr ne ↦ found_all P q ys x all.1 (sym (found_there q y ys ne) ∙ e)
-      ]
-
-  pub found_number : (q : ℕ) (xs : List X) (x : X) → found number q xs ≡ Some x → number x ≡ q
-  found_number q [] x e = absurd (none-some x e)
-  found_number q (y ∷ ys) x e =
-      elim (cases_eq (number y) q) [
-        | inl h ↦ (let same : y ≡ x = cc (found_here q y ys h) in subst (λ (z : X). number z ≡ q) same h)
-        | inr ne ↦ found_number q ys x (sym (found_there q y ys ne) ∙ e)
-      ]
-
-  pub found_in : (q : ℕ) (xs : List X) (x : X) → found number q xs ≡ Some x → In q (map number xs)
-  found_in q [] x e = none-some x e
-  found_in q (y ∷ ys) x e = elim (cases_eq (number y) q) [ inl h ↦ inl (sym h) | inr ne ↦ inr (found_in q ys x (sym (found_there q y ys ne) ∙ e)) ]
-
-  rising_from : (n : ℕ) (xs : List X) → IsRisingFrom number n xs → Above n (map number xs)
-  rising_from n [] h = tt
-  rising_from n (x ∷ xs) h = (h.0, rising_from (number x) xs h.1)
-
-  pub rising : (xs : List X) → IsRising number xs → Rises (map number xs)
-  rising [] h = tt
-  rising (x ∷ xs) h = rising_from (number x) xs h
-
-row_of : (rows : List ShapeRow) (q : ℕ) (s : Shape) (o : Option ShapeRow) → found (λ row. row.pid) q rows ≡ o → shape_of_row o ≡ Some s → In q (map (λ row. row.pid) rows)
+row_of : (rows : List ShapeRow) (q : ℕ) (s : Shape) (o : Option ShapeRow) → found (λ row. row.pid) q rows ≡ o → shape_of_row o ≡ Some s
+    → In q (map (λ row. row.pid) rows)
 row_of rows q s None is e = absurd (none-some s e)
 row_of rows q s (Some row) is e = found_in (λ row. row.pid) q rows row is
 
@@ -76,7 +30,8 @@ pub record ShapedAs {X : Type 0} (rows : List ShapeRow) (shape_of : X → Shape)
   pub one : X
   pub is : shape_at rows q ≡ Some (shape_of one)
 
-in_shaped : {X : Type 0} (rows : List ShapeRow) (number : X → ℕ) (shape_of : X → Shape) (q : ℕ) (xs : List X) → AllByRecursion (λ x. shape_at rows (number x) ≡ Some (shape_of x)) xs → In q (map number xs) → ShapedAs rows shape_of q
+in_shaped : {X : Type 0} (rows : List ShapeRow) (number : X → ℕ) (shape_of : X → Shape) (q : ℕ) (xs : List X)
+    → AllByRecursion (λ x. shape_at rows (number x) ≡ Some (shape_of x)) xs → In q (map number xs) → ShapedAs rows shape_of q
 in_shaped rows number shape_of q [] all h = absurd h
 in_shaped rows number shape_of q (x ∷ xs) all (inl e) = record { one = x; is = subst (λ (n : ℕ). shape_at rows n ≡ Some (shape_of x)) (sym e) all.0 }
 in_shaped rows number shape_of q (x ∷ xs) all (inr h) = in_shaped rows number shape_of q xs all.1 h
@@ -101,8 +56,14 @@ module _ (p : IlProgram) (valid : IsProgram p) where
       (rising (λ row. row.pid) p.shapes valid.rows)
       (rising (λ o. o.pid) p.objects valid.objects)
       (rising (λ r. r.pid) p.routines valid.routines)
-      (record { by = λ q h. let s : ShapedAs p.shapes object_shape q = in_shaped p.shapes (λ o. o.pid) object_shape q p.objects valid.shapes.objects h in shaped p.shapes q (object_shape s.one) s.is })
-      (record { by = λ q h. let s : ShapedAs p.shapes routine_shape q = in_shaped p.shapes (λ r. r.pid) routine_shape q p.routines valid.shapes.routines h in shaped p.shapes q (routine_shape s.one) s.is })
+      (record {
+        by = λ q h. let s : ShapedAs p.shapes object_shape q = in_shaped p.shapes (λ o. o.pid) object_shape q p.objects valid.shapes.objects
+            h in shaped p.shapes q (object_shape s.one) s.is;
+      })
+      (record {
+        by = λ q h. let s : ShapedAs p.shapes routine_shape q = in_shaped p.shapes (λ r. r.pid) routine_shape q p.routines
+            valid.shapes.routines h in shaped p.shapes q (routine_shape s.one) s.is;
+      })
       (record {
         by = λ q h h1.
             let s : ShapedAs p.shapes object_shape q = in_shaped p.shapes (λ o. o.pid) object_shape q p.objects valid.shapes.objects h in
@@ -133,9 +94,11 @@ module _ (p : IlProgram) (valid : IsProgram p) where
             absurd (unlike _ _ _ (same_Some _ _ e1)))
         | inr h ↦ (
             let f = in_found (λ (r : RoutineParts). r.pid) q p.routines h in
-            let here = found_all (λ (r : RoutineParts). r.pid) (λ r. shape_at p.shapes r.pid ≡ Some (routine_shape r)) q p.routines f.one valid.shapes.routines f.is in
+            let here = found_all (λ (r : RoutineParts). r.pid) (λ r. shape_at p.shapes r.pid ≡ Some (routine_shape r)) q p.routines f.one
+            valid.shapes.routines f.is in
             let each = found_all (λ (r : RoutineParts). r.pid) (IsValid p.shapes) q p.routines f.one valid.each f.is in
-            let same : shape.Routine f.one.params f.one.value ≡ shape.Routine n v = same_Some _ _ (sym here.0 ∙ ap (λ (k : ℕ). shape_at p.shapes k) here.1 ∙ e) in
+            let same : shape.Routine f.one.params f.one.value ≡ shape.Routine n v =
+            same_Some _ _ (sym here.0 ∙ ap (λ (k : ℕ). shape_at p.shapes k) here.1 ∙ e) in
             record { routine = f.one; is = f.is; params = cc; value = cc; is_valid = each.0 })
       ]
 
@@ -167,23 +130,34 @@ module _ (p : IlProgram) (valid : IsProgram p) where
   callee_fits q n v h = by_shape q n v (shape_at p.shapes q) refl h
 
   -- a routine's PID is in its range
-  pub pid_small : (q : ℕ) (r : RoutineParts) → routine_at p.routines q ≡ Some r → q < 2 ^ 17
+  pub pid_small : (q : ℕ) (r : RoutineParts) → routine_at p.routines q ≡ Some r → q < max_pids
   pid_small q r is =
-      let here = found_all (λ (r : RoutineParts). r.pid) (λ r. shape_at p.shapes r.pid ≡ Some (routine_shape r)) q p.routines r valid.shapes.routines is in
-      let row = in_found (λ (row : ShapeRow). row.pid) q p.shapes (shaped p.shapes q (routine_shape r) (sym (ap (λ (k : ℕ). shape_at p.shapes k) here.1) ∙ here.0)) in
+      let here = found_all (λ (r : RoutineParts). r.pid) (λ r. shape_at p.shapes r.pid ≡ Some (routine_shape r)) q p.routines r valid.shapes.routines
+      is in
+      let row = in_found (λ (row : ShapeRow). row.pid) q p.shapes
+      (shaped p.shapes q (routine_shape r) (sym (ap (λ (k : ℕ). shape_at p.shapes k) here.1) ∙ here.0)) in
       let pid = found_all (λ (row : ShapeRow). row.pid) (λ row. IsPid row.pid) q p.shapes row.one valid.pids row.is in
-      subst (λ (n : ℕ). n < 2 ^ 17) pid.1 pid.0
+      subst (λ (n : ℕ). n < max_pids) pid.1 pid.0
 
   -- an object's PID is in its range
-  object_small : (o : ObjectParts) → shape_at p.shapes o.pid ≡ Some (object_shape o) → o.pid < 2 ^ 17
+  object_small : (o : ObjectParts) → shape_at p.shapes o.pid ≡ Some (object_shape o) → o.pid < max_pids
   object_small o is =
       let row = in_found (λ (row : ShapeRow). row.pid) o.pid p.shapes (shaped p.shapes o.pid (object_shape o) is) in
       let pid = found_all (λ (row : ShapeRow). row.pid) (λ row. IsPid row.pid) o.pid p.shapes row.one valid.pids row.is in
-      subst (λ (n : ℕ). n < 2 ^ 17) pid.1 pid.0
+      subst (λ (n : ℕ). n < max_pids) pid.1 pid.0
 
-  all_small : (os : List ObjectParts) → AllByRecursion (λ o. shape_at p.shapes o.pid ≡ Some (object_shape o)) os → AllByRecursion (λ o. o.pid < 2 ^ 17) os
+  all_small : (os : List ObjectParts) → AllByRecursion (λ o. shape_at p.shapes o.pid ≡ Some (object_shape o)) os
+      → AllByRecursion (λ o. o.pid < max_pids) os
   all_small [] h = tt
   all_small (o ∷ os) h = (object_small o h.0, all_small os h.1)
 
-  pub objects_small : AllByRecursion (λ o. o.pid < 2 ^ 17) p.objects
+  pub objects_small : AllByRecursion (λ o. o.pid < max_pids) p.objects
   objects_small = all_small p.objects valid.shapes.objects
+
+  pub routine_valid : (x : ℕ) (r : RoutineParts) → routine_at p.routines x ≡ Some r → IsValid p.shapes r
+  routine_valid x r e = (found_all (λ z. z.pid) (IsValid p.shapes) x p.routines r valid.each e).0
+
+  pub shape_is : (x : ℕ) (r : RoutineParts) → routine_at p.routines x ≡ Some r → shape_at p.shapes x ≡ Some (routine_shape r)
+  shape_is x r e =
+      let both = found_all (λ z. z.pid) (λ z. shape_at p.shapes z.pid ≡ Some (routine_shape z)) x p.routines r valid.shapes.routines e in
+      ap (λ (y : ℕ). shape_at p.shapes y) (sym both.1) ∙ both.0

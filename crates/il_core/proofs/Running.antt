@@ -16,9 +16,9 @@ use Rattle.il_core.specs.Routine.{RoutineParts}
 use Rattle.il_core.specs.Program.{routine_at, main_pid}
 use Rattle.il_core.specs.Valid.{IsProgram, IsValid, IsValidInstr, IsValidEnd, AreValidBlocks, is_wanted}
 use Rattle.il_core.specs.World.{World, Outcome, Returns, Ends, Stuck, OutOfTurns, ended, first_byte, after_get, low_byte, after_put, turn, turn_at, choose, put_element, with_object, each, with_word, with_return}
-use Rattle.il_core.specs.Meaning.{Frame, with_reg, frame_of, cleared, received, Lengths, lengths, Next, Act, step, steps, sites_in, sites_of, finish, enter, Recorder, no_log, noted, begin, exec, act, at_start, Run, run_of, il_run}
-use Rattle.il_run.proofs.Naming.{main_shape}
-use Rattle.il_run.proofs.Valid.{callee_of, callee_fits}
+use Rattle.il_core.specs.Meaning.{Frame, with_reg, frame_of, cleared, received, Lengths, lengths, Next, Act, step, steps, sites_in, sites_of, finish, enter, Recorder, no_log, noted, begin, exec, act, at_start, Run, HasRun, run_of}
+use Rattle.il_core.proofs.Main.{main_shape}
+use Rattle.il_core.proofs.Programs.{callee_of, callee_fits}
 
 -- an outcome with at most so many turns left, that isn't stuck
 abbrev pub Done : {S : Type 0} → ℕ → Outcome S → Type 0
@@ -127,11 +127,6 @@ module _ {S : Type 0} (note : Recorder S) (p : IlProgram) (valid : IsProgram p) 
             begin_done w2.turns q (exec note p n) args (noted note r.pid k q w2) h (λ r1 ok1. exec_done n r1 0 (frame_of r1.params args) (noted note r.pid k q w2) (omega arith) ok1 ok1.some_block));
       })
       (λ v lv. record { by = λ f1 w1 le. turn_done w.turns w1.turns w1 (λ w2. exec note p n r v f1 w2) le (λ w2 lt2. exec_done n r v f1 w2 (omega arith) ok lv) })).by f w (omega arith)
-
--- a run of a valid program is there
-pub record HasRun (p : IlProgram) (input : List ℕ) (turns : ℕ) : Type 0 where
-  pub run : Run
-  pub is : il_run p input turns ≡ Some run
 
 run_there : {S : Type 0} (t : ℕ) (o : Outcome S) → Done t o → (r : Run) × (run_of o ≡ Some r)
 run_there t (Returns v w) d = (_, refl)

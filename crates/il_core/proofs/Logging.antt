@@ -4,7 +4,7 @@ use Rattle.il_core.specs.declared.program.IlProgram.{IlProgram}
 use Rattle.il_core.specs.Program.{routine_at, main_pid}
 use Rattle.il_core.specs.World.{World, Outcome, Returns, Ends, Stuck}
 use Rattle.il_core.specs.Meaning.{MadeCall, add_call, no_log, exec, act_noting, at_start, run_of, il_run}
-use Rattle.il_run.proofs.Bound.{outcome_by, begin_alike, exec_alike}
+use Rattle.il_core.proofs.Bound.{outcome_by, begin_alike, exec_alike}
 
 abbrev forget : List MadeCall → Unit {0}
 forget calls = tt
