@@ -14,5 +14,3 @@ mod step;
 pub use fault::{LexFault, LexKind};
 pub use scanner::scan;
 
-#[cfg(test)]
-mod tests;

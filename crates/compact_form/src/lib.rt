@@ -13,5 +13,3 @@ mod writing;
 
 pub use body::RoutineBody;
 
-#[cfg(test)]
-mod tests;

@@ -6,8 +6,6 @@ mod conversions;
 mod name;
 mod operators;
 mod seq;
-#[cfg(test)]
-mod tests;
 mod word;
 
 pub use conversions::{convert, promote, usual};

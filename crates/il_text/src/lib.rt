@@ -26,5 +26,3 @@ pub use head::write_head;
 pub use read::read_il;
 pub use routine::write_routine;
 
-#[cfg(test)]
-mod tests;

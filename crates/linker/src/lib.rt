@@ -3,8 +3,6 @@
 
 mod fault;
 mod link;
-#[cfg(test)]
-mod tests;
 
 pub use fault::LinkFault;
 pub use link::link_check;

@@ -12,8 +12,6 @@ mod pool;
 mod scratch;
 mod state;
 mod table;
-#[cfg(test)]
-mod tests;
 
 pub use event::{Event, Failure, Form, Mode, Refusal};
 pub use history::replay;

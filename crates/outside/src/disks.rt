@@ -205,36 +205,3 @@ impl Disk for BentDisk {
         self.inner.write_at(at, b)
     }
 }
-
-#[cfg(test)]
-mod tests {
-    use super::*;
-    use std::test::Fail;
-
-    #[test]
-    fn a_disk_grows_by_zeros(rt: HostRuntime) -> Result<(), Fail> {
-        let alloc = rt.alloc();
-        let mut disk = MemDisk::new(vec![in alloc; 5]?, vec![in alloc; 2]?);
-        assert_eq!(rt; disk.write_at(3, &[7]), Ok(1));
-        assert_eq!(rt; disk.write_at(0, &[9]), Err(Failed));
-        assert_eq!(rt; disk.bytes(), [5, 0, 0, 7].as_slice());
-        let mut b = [1; 3];
-        assert_eq!(rt; disk.read_at(2, &mut b), Ok(3));
-        assert_eq!(rt; b, [0, 7, 0]);
-        Ok(())
-    }
-
-    #[test]
-    fn one_read_is_bent(rt: HostRuntime) -> Result<(), Fail> {
-        let alloc = rt.alloc();
-        let inner = MemDisk::new(vec![in alloc; 1, 2]?, Vec::new(alloc));
-        let mut disk = BentDisk::new(inner, 2, 11);
-        assert_eq!(rt; disk.write_at(0, &[4]), Ok(1));
-        let mut b = [0; 2];
-        for want in [[4, 2], [4, 10], [4, 2]] {
-            assert_eq!(rt; disk.read_at(0, &mut b), Ok(2));
-            assert_eq!(rt; b, want);
-        }
-        Ok(())
-    }
-}

@@ -146,26 +146,3 @@ impl Source for MemSource {
         given
     }
 }
-
-#[cfg(test)]
-mod tests {
-    use super::*;
-    use std::test::Fail;
-
-    #[test]
-    fn sources_give_their_bytes(rt: HostRuntime) -> Result<(), Fail> {
-        let alloc = rt.alloc();
-        let mut b = [9; 2];
-        let mut sure = SureSource::new(vec![in alloc; 1, 2, 3]?);
-        assert_eq!(rt; sure.read(&mut b), Ok(2));
-        assert_eq!(rt; b, [1, 2]);
-        assert_eq!(rt; sure.read(&mut b), Ok(1));
-        assert_eq!(rt; b, [3, 2]);
-        assert_eq!(rt; sure.read(&mut b), Ok(0));
-        let mut source = MemSource::new(vec![in alloc; 4, 5]?, vec![in alloc; 1]?);
-        assert_eq!(rt; source.read(&mut b), Err(Failed));
-        assert_eq!(rt; source.read(&mut b), Ok(2));
-        assert_eq!(rt; b, [4, 5]);
-        Ok(())
-    }
-}

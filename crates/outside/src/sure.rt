@@ -201,37 +201,3 @@ pub struct QuietGate;
 impl Gate for QuietGate {
     fn at(&self, _worker: u32, _m: Moment) {}
 }
-
-#[cfg(test)]
-mod tests {
-    use super::*;
-    use crate::shelf::read_whole;
-    use crate::sink::write_all;
-    use std::test::Fail;
-
-    #[test]
-    fn sure_forms_answer(rt: HostRuntime) -> Result<(), Fail> {
-        let alloc = rt.alloc();
-        let mut sink = SureSink::new();
-        assert_eq!(rt; write_all(&mut sink, b"abc"), Ok(()));
-        let mut files = Vec::new(alloc);
-        files.push((String::from_str(alloc, "a.c")?, vec![in alloc; 1, 2, 3]?))?;
-        let mut shelf = SureShelf::new(files);
-        assert!(rt;
-            matches!(read_whole(alloc, &mut shelf, "a.c", 3), Ok(v) if v.as_slice() == [1, 2, 3].as_slice())
-        );
-        assert!(rt; matches!(read_whole(alloc, &mut shelf, "b.c", 3), Ok(v) if v.is_empty()));
-        QuietGate.at(0, Moment::Transform);
-        Ok(())
-    }
-
-    #[test]
-    fn a_disk_keeps_its_length(rt: HostRuntime) -> Result<(), Fail> {
-        let mut disk = SureDisk::new(rt.alloc(), 4)?;
-        assert_eq!(rt; disk.write_at(2, &[7, 8, 9]), Ok(3));
-        let mut b = [1; 4];
-        assert_eq!(rt; disk.read_at(1, &mut b), Ok(4));
-        assert_eq!(rt; b, [0, 7, 8, 0]);
-        Ok(())
-    }
-}

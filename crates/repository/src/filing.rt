@@ -7,9 +7,6 @@ ghost use Rattle.repository.specs.Filing.{record_of, IsCountedFault, FetchFault,
 
 use crate::places::{read_range, write_range};
 
-#[cfg(test)]
-mod tests;
-
 use outside::{Disk, Failed};
 use sha2::{Digest, Sha256};
 use std::alloc::{AllocError, Global};

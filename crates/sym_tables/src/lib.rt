@@ -6,8 +6,6 @@ mod fault;
 mod listing;
 mod symbol;
 mod table;
-#[cfg(test)]
-mod tests;
 
 pub use entity::{Entity, compatible};
 pub use fault::SymFault;
