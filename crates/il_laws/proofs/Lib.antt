@@ -34,3 +34,21 @@ pub mod Samples
 pub mod MixedSamples
 pub mod Sizes
 pub mod Charges
+pub mod Returning
+pub mod Renaming
+pub mod SpliceBlocks
+pub mod SpliceRuns
+pub mod SpliceSites
+pub mod SpliceValid
+pub mod SpliceServes
+pub mod SpliceSizes
+pub mod CloneRuns
+pub mod CloneValid
+pub mod CloneRows
+pub mod Retargeted
+pub mod Shaped
+pub mod Grown
+pub mod Rows
+mod SpliceSamples
+mod CloneSamples
+mod ReachSamples

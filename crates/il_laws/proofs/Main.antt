@@ -1,6 +1,6 @@
 -- A valid program has its `main`.
 use Rattle.std.proofs.Common.{◌≡◌, ℕ, zero, suc, ◌<◌, List, [], ◌∷◌, length, get_or, true, false, ap, sym, ◌∙◌, arith, inl, inr, Bool}
-use Rattle.std.specs.Prelude.{nat_eq, if◌then◌else◌, codes, Some, ◌≢◌}
+use Rattle.std.specs.Prelude.{nat_eq, if◌then◌else◌, codes, Some, ◌≢◌, Contains}
 use Rattle.std.specs.Cmp.Lexicographic.{pointwise}
 use Rattle.std.proofs.lemmas.Bool.{cases_Bool}
 use Rattle.std.proofs.lemmas.Slice.Eq.{bytes_eq-Decides}
@@ -51,3 +51,7 @@ pub main_stands : (p : IlProgram) → IsProgram p → Stands p (main_pid p.shape
 main_stands p valid =
     let c = callee_of p valid (main_pid p.shapes) 0 true (main_shape p valid) in
     record { routine = c.routine; is = c.is }
+
+-- the row of that name has its PID
+pub main_of_row : (p : IlProgram) → IsProgram p → (row : ShapeRow) → Contains p.shapes row → row.name ≡ codes "main" → main_pid p.shapes ≡ row.pid
+main_of_row p valid row c e = once (codes "main") p.shapes c.0 row valid.names c.1 c.2 e

@@ -12,3 +12,13 @@ pub mod Serving
 pub mod Simplify
 pub mod SimplifyLaws
 pub mod Unreachable
+pub mod Clone
+pub mod CloneLaws
+pub mod Growing
+pub mod Inline
+pub mod Reach
+pub mod Retarget
+pub mod Sites
+pub mod Splice
+pub mod SpliceLaws
+pub mod Table

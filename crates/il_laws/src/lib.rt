@@ -5,9 +5,11 @@
 
 mod keeping;
 mod simplifying;
+mod splicing;
 
 pub use keeping::{follow_then, replaced_follow, run_kept, valid_runs};
 pub use simplifying::{
     drop_dead_writes_keeps, drop_unreachable_keeps, fold_branches_keeps, merge_blocks_keeps,
     propagate_keeps, simplify_keeps,
 };
+pub use splicing::{inline_keeps, splice_keeps, splice_size, wave_keeps};
