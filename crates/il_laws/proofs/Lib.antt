@@ -48,6 +48,7 @@ pub mod CloneRows
 pub mod Retargeted
 pub mod Shaped
 pub mod Grown
+pub mod ClonesGrown
 pub mod Rows
 mod SpliceSamples
 mod CloneSamples

@@ -48,16 +48,19 @@ abbrev pub RetargetFollows : Type 0
 RetargetFollows = (p : IlProgram) → IsProgram p → (x : ℕ) (r : RoutineParts) (moves : List SiteMove) → routine_at p.routines x ≡ Some r
     → AllByRecursion (IsByRow p r) moves → MayFollow p (with_routine p (retarget r moves))
 
--- what a new clone's row is in a program
-pub record HasRow (p : IlProgram) (c : NewClone) : Type 0 where
-  pub right : IsRight p (row_of c)
+-- what a new clone is in a program: it stands, takes its callee's place in a call, and its row is right
+pub record IsAdded (p : IlProgram) (c : NewClone) : Type 0 where
+  pub stands : Stands p c.pid
   pub shape : HasCalleesShape p (row_of c)
+  pub right : IsRight p (row_of c)
 
--- Clones that fit may be added: the program follows, `main` has its PID, no other routine comes, and each row is right.
-pub record ClonesAdded (p : IlProgram) (cs : List NewClone) : Type 0 where
-  pub follows : MayFollow p (with_clones p cs)
-  pub main : main_pid (with_clones p cs).shapes ≡ main_pid p.shapes
-  pub rows : AllByRecursion (HasRow (with_clones p cs)) cs
+-- A program with clones added: it follows, what stood stands as it was, and `main` has its PID.
+pub record ClonesAdded (p p1 : IlProgram) (cs : List NewClone) : Type 0 where
+  pub follows : MayFollow p p1
+  pub stand : (x : ℕ) (r : RoutineParts) → routine_at p.routines x ≡ Some r → routine_at p1.routines x ≡ Some r
+  pub main : main_pid p1.shapes ≡ main_pid p.shapes
+  pub clones : AllByRecursion (IsAdded p1) cs
 
+-- Clones that fit may be added.
 abbrev pub ClonesFollow : Type 0
-ClonesFollow = (p : IlProgram) → IsProgram p → (cs : List NewClone) → ClonesFit p cs → ClonesAdded p cs
+ClonesFollow = (p : IlProgram) → IsProgram p → (cs : List NewClone) → ClonesFit p cs → ClonesAdded p (with_clones p cs) cs

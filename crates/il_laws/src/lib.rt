@@ -3,10 +3,12 @@
 //! the laws.
 #![tactic(auto)]
 
+mod cloning;
 mod keeping;
 mod simplifying;
 mod splicing;
 
+pub use cloning::{clone_is_right, clone_is_valid, clones_keep, retarget_keeps};
 pub use keeping::{follow_then, replaced_follow, run_kept, valid_runs};
 pub use simplifying::{
     drop_dead_writes_keeps, drop_unreachable_keeps, fold_branches_keeps, merge_blocks_keeps,
