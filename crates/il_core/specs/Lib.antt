@@ -1,6 +1,7 @@
 pub mod Limits
 pub mod Meaning
 pub mod Object
+pub mod Operands
 pub mod Program
 pub mod Ranges
 pub mod Routine

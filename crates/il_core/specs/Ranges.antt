@@ -1,5 +1,5 @@
 -- The numbers of a program, each of which its type holds in 32 bits.
-use Rattle.std.specs.Prelude.{ℕ, ◌<◌, ◌++◌, List, [], ◌∷◌, Option, Some, None, option_to_list}
+use Rattle.std.specs.Prelude.{ℕ, ◌++◌, List, [], ◌∷◌, option_to_list}
 use Rattle.std.specs.List.{AllByRecursion}
 use Rattle.hlo_num.specs.Words.{IsWord}
 use Rattle.hlo_num.specs.declared.word.Word.{Word}
