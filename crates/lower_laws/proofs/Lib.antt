@@ -1,3 +1,5 @@
+mod Coming
 mod Frames
 mod Growing
+mod Passing
 mod Samples
