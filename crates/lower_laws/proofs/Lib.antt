@@ -1,5 +1,6 @@
 mod Coming
 mod Frames
 mod Growing
+mod Meeting
 mod Passing
 mod Samples
