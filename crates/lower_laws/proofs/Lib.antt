@@ -4,3 +4,4 @@ mod Growing
 mod Meeting
 mod Passing
 mod Samples
+mod Steps
