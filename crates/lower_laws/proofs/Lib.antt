@@ -3,5 +3,6 @@ mod Frames
 mod Growing
 mod Meeting
 mod Passing
+mod Pieces
 mod Samples
 mod Steps
