@@ -1,4 +1,5 @@
 mod Coming
+mod ExpressionsMeet
 mod Frames
 mod Growing
 mod Meeting
