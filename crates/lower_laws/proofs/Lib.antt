@@ -6,4 +6,6 @@ mod Meeting
 mod Passing
 mod Pieces
 mod Samples
+mod StatementsGrow
+mod StatementsPass
 mod Steps
