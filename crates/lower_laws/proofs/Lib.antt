@@ -1,5 +1,7 @@
 mod Coming
 mod ExpressionsMeet
+mod Fine
+mod Flowing
 mod Frames
 mod Growing
 mod Meeting
