@@ -8,6 +8,9 @@ mod Meeting
 mod Passing
 mod Pieces
 mod Samples
+mod StandsAt
 mod StatementsGrow
+mod StatementsMeet
 mod StatementsPass
 mod Steps
+mod SwitchesMeet
