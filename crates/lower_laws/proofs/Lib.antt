@@ -1,4 +1,5 @@
 mod Coming
+mod Declarators
 mod ExpressionsMeet
 mod Fine
 mod Flowing
@@ -14,3 +15,4 @@ mod StatementsMeet
 mod StatementsPass
 mod Steps
 mod SwitchesMeet
+mod Widening
