@@ -5,6 +5,7 @@ mod Fine
 mod Flowing
 mod Frames
 mod Growing
+mod Layouts
 mod Meeting
 mod Passing
 mod Pieces
