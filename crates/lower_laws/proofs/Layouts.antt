@@ -67,27 +67,34 @@ module _ (y : Layout) (s : Scope) (ds : List ℕ) (reg : (x : ℕ) → y.registe
       above : (x z : ℕ) → x < z → z < suc known → s.is_array x ≡ false → s.is_array z ≡ false → y.register known ≡ n.reg
           → y.register x < y.register z
       above x z xz lt ax az here = ⊎_elim (λ b. h.rising x z xz b ax az)
-      (λ b. omega (arith, here, ap y.register (x_is z known lt b), h.before x (omega arith) ax)) (cases_lt z known)
+          (λ b. omega (arith, here, ap y.register (x_is z known lt b), h.before x (omega arith) ax)) (cases_lt z known)
         where
           x_is : (x known : ℕ) → x < suc known → known ≤ x → x ≡ known
           x_is x known lt le = omega arith
 
   -- registers from r up to r1 are no local's, where known locals are declared and those to come have registers from r1 opened
   room_is : (known r r1 : ℕ) (k : List ℕ) → Placed known r → drop known ds ≡ k → AllFrom r1 k → IsRoom y s r r1
-  room_is known r r1 k h e later =
-      record { by = λ d from below. record { behind = omega (arith, h.behind); other = λ x ok is. ⊎_elim
-      (λ b. absurd (omega (arith, h.before x b ok.1, is))) (λ b. absurd
-      (omega (arith, reg x, is, least_at ds known x r1 (subst (AllFrom r1) (sym e) later) b (omega (arith, ok.0, few))))) (cases_lt x known) } }
+  room_is known r r1 k h e later = record {
+    by = λ d from below. record {
+      behind = omega (arith, h.behind);
+      other = λ x ok is. ⊎_elim (λ b. absurd (omega (arith, h.before x b ok.1, is)))
+          (λ b. absurd (omega (arith, reg x, is, least_at ds known x r1 (subst (AllFrom r1) (sym e) later) b (omega (arith, ok.0, few)))))
+          (cases_lt x known);
+    };
+  }
 
-  -- an expression at a mark, in front of these declarators
+  -- an expression at a place, in front of these declarators
   fine_expr : (e : Expr) (n : Numbers) (known : ℕ) (k : List ℕ) → IsExpr (with_locals s known) e → known ≤ s.locals → Placed known n.reg
       → drop known ds ≡ k → AllFrom (past e n).reg k → FineExpr y s e n
   fine_expr e n known k ok le h here later = record { bound = wider s known s.locals e le ok; room = room_is known n.reg (past e n).reg k h here later }
 
   fine_value : (e : Expr) (n : Numbers) (known : ℕ) (k : List ℕ) → IsExpr (with_locals s known) e → HasValue e → known ≤ s.locals
       → Placed known n.reg → drop known ds ≡ k → AllFrom (past e n).reg k → FineValue y s e n
-  fine_value e n known k ok has le h here later = record { bound = wider s known s.locals e le ok; room = room_is known n.reg
-  (past e n).reg k h here later; has = has }
+  fine_value e n known k ok has le h here later = record {
+    bound = wider s known s.locals e le ok;
+    room = room_is known n.reg (past e n).reg k h here later;
+    has = has;
+  }
 
   fine_optional : (e : Option Expr) (n : Numbers) (known : ℕ) (k : List ℕ) → IsOptional (with_locals s known) e → known ≤ s.locals
       → Placed known n.reg → drop known ds ≡ k → AllFrom (optional_past e n).reg k → FineOptional y s e n
@@ -123,14 +130,14 @@ module _ (y : Layout) (s : Scope) (ds : List ℕ) (reg : (x : ℕ) → y.registe
     fine_stmt (tree.Declaration x None) opened n known k ok le h later =
         let d = drop_next ds known n.reg k h.here in
         (tt, record { placed = subst (λ z. Placed (suc known) (local_past (y.outline.is_array z) n).reg) (sym ok)
-        (placed_next (y.outline.is_array known) known n refl d.1 h.placed); here = d.0 })
+          (placed_next (y.outline.is_array known) known n refl d.1 h.placed); here = d.0 })
     fine_stmt (tree.Declaration x (Some e)) opened n known k ok le h later =
         let d = drop_next ds known n.reg k h.here in
         let n1 = local_past (y.outline.is_array x) n in
         let placed : Placed (suc known) n1.reg = subst (λ z. Placed (suc known) (local_past (y.outline.is_array z) n).reg) (sym ok.0)
         (placed_next (y.outline.is_array known) known n refl d.1 h.placed) in
         (((omega (arith, ok.0), ok.1), fine_value e n1 (suc known) k ok.2.0 ok.2.1 le placed d.0 later), record
-        { placed = placed_more (grow e n1).reg placed; here = d.0 })
+          { placed = placed_more (grow e n1).reg placed; here = d.0 })
     fine_stmt (tree.Expression e) opened n known k ok le h later = (fine_expr e n known k ok le h.placed h.here later, behind_more (grow e n).reg h)
     fine_stmt (tree.If e a) opened n known k ok le h later =
         let o = y.outline in
@@ -139,7 +146,7 @@ module _ (y : Layout) (s : Scope) (ds : List ℕ) (reg : (x : ℕ) → y.registe
         let later1 = all_lower _ _ k g.reg later in
         let p = fine_stmt a true n1 known k ok.1 le (behind_more (grow e n).reg h) later1 in
         ((fine_value e n known _ ok.0.0 ok.0.1 (omega (arith, locals_grow a known)) h.placed h.here
-        (declarators_from o a true n1 k later1), p.0), behind_more g.reg p.1)
+          (declarators_from o a true n1 k later1), p.0), behind_more g.reg p.1)
     fine_stmt (tree.IfElse e a b) opened n known k ok le h later =
         let o = y.outline in
         let n1 = past_end (past e n) in
@@ -151,7 +158,7 @@ module _ (y : Layout) (s : Scope) (ds : List ℕ) (reg : (x : ℕ) → y.registe
         (behind_more (grow e n).reg h) later2 in
         let q = fine_stmt b true n2 (locals_behind a known) k ok.2 le p.1 later1 in
         ((fine_value e n known _ ok.0.0 ok.0.1 (omega (arith, locals_grow a known, locals_grow b (locals_behind a known))) h.placed h.here
-        (declarators_from o a true n1 _ later2), p.0, q.0), behind_more g.reg q.1)
+          (declarators_from o a true n1 _ later2), p.0, q.0), behind_more g.reg q.1)
     fine_stmt (tree.Switch e ss) opened n known k ok le h later =
         let o = y.outline in
         let n1 = past e n in
@@ -164,8 +171,8 @@ module _ (y : Layout) (s : Scope) (ds : List ℕ) (reg : (x : ℕ) → y.registe
         let later2 = sections_from o ss false n2 k later1 in
         let p = fine_sections ss false n2 known k ok.1 le (behind_more (omega (arith, g1.reg, g2.reg)) h) later1 in
         ((fine_value e n known _ ok.0.0 ok.0.1 (omega (arith, sections_grow ss known)) h.placed h.here
-        (all_lower _ _ (section_declarators o ss false n2 k) g2.reg later2), room_is known n1.reg nt.reg _
-        (placed_more g1.reg h.placed) h.here later2, p.0), behind_more g.reg p.1)
+          (all_lower _ _ (section_declarators o ss false n2 k) g2.reg later2), room_is known n1.reg nt.reg _
+          (placed_more g1.reg h.placed) h.here later2, p.0), behind_more g.reg p.1)
     fine_stmt (tree.While e a) opened n known k ok le h later =
         let o = y.outline in
         let n1 = past_label opened n in
@@ -183,7 +190,7 @@ module _ (y : Layout) (s : Scope) (ds : List ℕ) (reg : (x : ℕ) → y.registe
         (all_lower _ _ k (omega (arith, g.reg, (grow e n3).reg)) later) in
         let h1 = behind_more g.reg p.1 in
         ((p.0, fine_value e n3 (locals_behind a known) k (wider s known (locals_behind a known) e
-        (locals_grow a known) ok.1.0) ok.1.1 le h1.placed h1.here later), behind_more (grow e n3).reg h1)
+          (locals_grow a known) ok.1.0) ok.1.1 le h1.placed h1.here later), behind_more (grow e n3).reg h1)
     fine_stmt (tree.For f e d a) opened n known k ok le h later =
         let o = y.outline in
         let n0 = optional_past f n in
@@ -204,14 +211,14 @@ module _ (y : Layout) (s : Scope) (ds : List ℕ) (reg : (x : ℕ) → y.registe
         let p = fine_stmt a true n2 known k ok.3 le (behind_more g2.reg h1) later3 in
         let h4 = behind_more g4.reg p.1 in
         ((fine_optional f n known _ ok.0 (omega arith) h.placed h.here
-        (all_lower _ _ (declarators o a true n2 k) g1.reg later1), fine_condition e n1 known _ ok.1
-        (omega arith) h1.placed h1.here later2, p.0, fine_optional d n4 (locals_behind a known) k
-        (wider_optional s known (locals_behind a known) d l ok.2) le h4.placed h4.here later), behind_more g5.reg h4)
+          (all_lower _ _ (declarators o a true n2 k) g1.reg later1), fine_condition e n1 known _ ok.1
+          (omega arith) h1.placed h1.here later2, p.0, fine_optional d n4 (locals_behind a known) k
+          (wider_optional s known (locals_behind a known) d l ok.2) le h4.placed h4.here later), behind_more g5.reg h4)
     fine_stmt tree.Break opened n known k ok le h later = (tt, h)
     fine_stmt tree.Continue opened n known k ok le h later = (tt, h)
     fine_stmt (tree.Return None) opened n known k ok le h later = (tt, behind_more (grow_stmt y.outline (tree.Return None) opened n).reg h)
     fine_stmt (tree.Return (Some e)) opened n known k ok le h later = (fine_value e n known k ok.0 ok.1 le h.placed h.here later, behind_more
-    (grow e n).reg h)
+      (grow e n).reg h)
 
     pub fine_sections : (ss : Sections) (opened : Bool) (n : Numbers) (known : ℕ) (k : List ℕ) → AreSections (with_locals s known) ss
         → sections_behind ss known ≤ s.locals → Behind known n.reg (section_declarators y.outline ss opened n k) → AllFrom

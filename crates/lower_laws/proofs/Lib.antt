@@ -9,11 +9,14 @@ mod Layouts
 mod Meeting
 mod Passing
 mod Pieces
+mod Runs
 mod Samples
+mod Sizes
 mod StandsAt
 mod StatementsGrow
 mod StatementsMeet
 mod StatementsPass
 mod Steps
 mod SwitchesMeet
+mod Whole
 mod Widening
