@@ -100,13 +100,13 @@ module _ {S : Type 0} (c : Setting S) (laid : IsLaidOut c.routine c.function c.l
         let testing = put (instr.Const zero_at.reg (word 0)) (put (instr.Bin op.Ne d (result b right) zero_at.reg) (close (ends.Jump behind.block) skipping)) in
         let second = code c.layout b right testing in
         let to_skip : Leads c skip.block right second skip skipping =
-            leads_by c skip (passes_then c (passes_expr c c.layout b right (past_either (is_open b) _ _ (omega arith)))
-            (passes_then c (passes_put c _ zero_at (past_new zero_at) refl (omega arith))
-            (passes_then c (passes_put c _ (past_new zero_at) (past_instr (past_new zero_at)) refl (omega arith))
-            (passes_close c _ (past_instr (past_new zero_at)) skip refl (omega arith))))) in
+        leads_by c skip (passes_then c (passes_expr c c.layout b right (past_either (is_open b) _ _ (omega arith)))
+        (passes_then c (passes_put c _ zero_at (past_new zero_at) refl (omega arith))
+        (passes_then c (passes_put c _ (past_new zero_at) (past_instr (past_new zero_at)) refl (omega arith))
+        (passes_close c _ (past_instr (past_new zero_at)) skip refl (omega arith))))) in
         let to_end : Leads c behind.block skip skipping behind k =
-            leads_by c behind (passes_then c (passes_put c _ skip (past_instr skip) refl (omega arith))
-            (passes_close c _ (past_instr skip) behind refl (omega arith))) in
+        leads_by c behind (passes_then c (passes_put c _ skip (past_instr skip) refl (omega arith))
+        (passes_close c _ (past_instr skip) behind refl (omega arith))) in
         let free = room.by d g1.reg (omega (arith, g3.reg)) in
         if_value c _ (meets_then c {r0 = n.reg} {r1 = d} {k1 = close (logical_end o (result a n) right.block skip.block) second} {n1 = left} (eval a l w)
         (omega arith) g1.reg ready.turns
@@ -162,13 +162,13 @@ module _ {S : Type 0} (c : Setting S) (laid : IsLaidOut c.routine c.function c.l
         let middle = put (instr.Move z (result a first)) (close (ends.Jump behind.block) other) in
         let arms = code c.layout a first middle in
         let to_other : Leads c second.block first arms second other =
-            leads_by c second (passes_then c (passes_expr c c.layout a first (past_either (is_open a) _ _ (omega arith)))
-            (passes_then c (passes_put c _ first_end (past_instr first_end) refl (omega arith))
-            (passes_close c _ (past_instr first_end) second refl (omega arith)))) in
+        leads_by c second (passes_then c (passes_expr c c.layout a first (past_either (is_open a) _ _ (omega arith)))
+        (passes_then c (passes_put c _ first_end (past_instr first_end) refl (omega arith))
+        (passes_close c _ (past_instr first_end) second refl (omega arith)))) in
         let to_end : Leads c behind.block second other behind k =
-            leads_by c behind (passes_then c (passes_expr c c.layout b second (past_either (is_open b) _ _ (omega arith)))
-            (passes_then c (passes_put c _ second_end (past_instr second_end) refl (omega arith))
-            (passes_close c _ (past_instr second_end) behind refl (omega arith)))) in
+        leads_by c behind (passes_then c (passes_expr c c.layout b second (past_either (is_open b) _ _ (omega arith)))
+        (passes_then c (passes_put c _ second_end (past_instr second_end) refl (omega arith))
+        (passes_close c _ (past_instr second_end) behind refl (omega arith)))) in
         let free = room.by z g1.reg (omega (arith, g2.reg, g3.reg)) in
         if_value c _ (meets_then c {r0 = n.reg} {r1 = z} {k1 = close (ends.Branch (result d n) first.block second.block) arms} {n1 = asked} (eval d l w)
         (omega arith) g1.reg ready.turns
@@ -199,10 +199,10 @@ module _ {S : Type 0} (c : Setting S) (laid : IsLaidOut c.routine c.function c.l
         let middle = close (ends.Jump behind.block) other in
         let arms = code c.layout a first middle in
         let to_other : Leads c second.block first arms second other =
-            leads_by c second (passes_then c (passes_expr c c.layout a first (past_either (is_open a) _ _ (omega arith)))
-            (passes_close c _ first_end second refl (omega arith))) in
+        leads_by c second (passes_then c (passes_expr c c.layout a first (past_either (is_open a) _ _ (omega arith)))
+        (passes_close c _ first_end second refl (omega arith))) in
         let to_end : Leads c behind.block second other behind k =
-            leads_by c behind (passes_then c (passes_expr c c.layout b second (label_is_past opened second_end)) (passes_label c opened second_end (omega arith))) in
+        leads_by c behind (passes_then c (passes_expr c c.layout b second (label_is_past opened second_end)) (passes_label c opened second_end (omega arith))) in
         meets_then c {r0 = n.reg} {r1 = asked.reg} {k1 = close (ends.Branch (result d n) first.block second.block) arms} {n1 = asked} (eval d l w)
         (omega arith) g1.reg ready.turns
         (as_value c d _ ok.0.1 (expr_meets d n ok.0.0 (room_part (omega arith) (omega (arith, g2.reg, g3.reg, g5.reg)) room) ready))

@@ -128,25 +128,37 @@ module _ (y : Layout) (s : Scope) (ds : List ℕ) (reg : (x : ℕ) → y.registe
         let q = fine_stmt b o1 n1 (locals_behind a known) k ok.1 le p.1 later in
         ((p.0, q.0), q.1)
     fine_stmt (tree.Declaration x None) opened n known k ok le h later =
-        let d = drop_next ds known n.reg k h.here in
-        (tt, record { placed = subst (λ z. Placed (suc known) (local_past (y.outline.is_array z) n).reg) (sym ok)
-          (placed_next (y.outline.is_array known) known n refl d.1 h.placed); here = d.0 })
+        let d = drop_next ds known n.reg k h.here in (
+          tt,
+          record {
+            placed = subst (λ z. Placed (suc known) (local_past (y.outline.is_array z) n).reg) (sym ok)
+                (placed_next (y.outline.is_array known) known n refl d.1 h.placed);
+            here = d.0;
+          },
+        )
     fine_stmt (tree.Declaration x (Some e)) opened n known k ok le h later =
         let d = drop_next ds known n.reg k h.here in
         let n1 = local_past (y.outline.is_array x) n in
         let placed : Placed (suc known) n1.reg = subst (λ z. Placed (suc known) (local_past (y.outline.is_array z) n).reg) (sym ok.0)
-        (placed_next (y.outline.is_array known) known n refl d.1 h.placed) in
-        (((omega (arith, ok.0), ok.1), fine_value e n1 (suc known) k ok.2.0 ok.2.1 le placed d.0 later), record
-          { placed = placed_more (grow e n1).reg placed; here = d.0 })
+        (placed_next (y.outline.is_array known) known n refl d.1 h.placed) in (
+          ((omega (arith, ok.0), ok.1), fine_value e n1 (suc known) k ok.2.0 ok.2.1 le placed d.0 later),
+          record
+              { placed = placed_more (grow e n1).reg placed; here = d.0 },
+        )
     fine_stmt (tree.Expression e) opened n known k ok le h later = (fine_expr e n known k ok le h.placed h.here later, behind_more (grow e n).reg h)
     fine_stmt (tree.If e a) opened n known k ok le h later =
         let o = y.outline in
         let n1 = past_end (past e n) in
         let g = grow_label (open_behind a true) (stmt_past o a true n1) in
         let later1 = all_lower _ _ k g.reg later in
-        let p = fine_stmt a true n1 known k ok.1 le (behind_more (grow e n).reg h) later1 in
-        ((fine_value e n known _ ok.0.0 ok.0.1 (omega (arith, locals_grow a known)) h.placed h.here
-          (declarators_from o a true n1 k later1), p.0), behind_more g.reg p.1)
+        let p = fine_stmt a true n1 known k ok.1 le (behind_more (grow e n).reg h) later1 in (
+          (
+            fine_value e n known _ ok.0.0 ok.0.1 (omega (arith, locals_grow a known)) h.placed h.here
+                (declarators_from o a true n1 k later1),
+            p.0,
+          ),
+          behind_more g.reg p.1,
+        )
     fine_stmt (tree.IfElse e a b) opened n known k ok le h later =
         let o = y.outline in
         let n1 = past_end (past e n) in
@@ -156,9 +168,15 @@ module _ (y : Layout) (s : Scope) (ds : List ℕ) (reg : (x : ℕ) → y.registe
         let later2 = declarators_from o b true n2 k later1 in
         let p = fine_stmt a true n1 known (declarators o b true n2 k) ok.1 (omega (arith, locals_grow b (locals_behind a known)))
         (behind_more (grow e n).reg h) later2 in
-        let q = fine_stmt b true n2 (locals_behind a known) k ok.2 le p.1 later1 in
-        ((fine_value e n known _ ok.0.0 ok.0.1 (omega (arith, locals_grow a known, locals_grow b (locals_behind a known))) h.placed h.here
-          (declarators_from o a true n1 _ later2), p.0, q.0), behind_more g.reg q.1)
+        let q = fine_stmt b true n2 (locals_behind a known) k ok.2 le p.1 later1 in (
+          (
+            fine_value e n known _ ok.0.0 ok.0.1 (omega (arith, locals_grow a known, locals_grow b (locals_behind a known))) h.placed h.here
+                (declarators_from o a true n1 _ later2),
+            p.0,
+            q.0,
+          ),
+          behind_more g.reg q.1,
+        )
     fine_stmt (tree.Switch e ss) opened n known k ok le h later =
         let o = y.outline in
         let n1 = past e n in
@@ -169,10 +187,16 @@ module _ (y : Layout) (s : Scope) (ds : List ℕ) (reg : (x : ℕ) → y.registe
         let g = grow_label (sections_open ss false) (sections_past o ss false n2) in
         let later1 = all_lower _ _ k g.reg later in
         let later2 = sections_from o ss false n2 k later1 in
-        let p = fine_sections ss false n2 known k ok.1 le (behind_more (omega (arith, g1.reg, g2.reg)) h) later1 in
-        ((fine_value e n known _ ok.0.0 ok.0.1 (omega (arith, sections_grow ss known)) h.placed h.here
-          (all_lower _ _ (section_declarators o ss false n2 k) g2.reg later2), room_is known n1.reg nt.reg _
-          (placed_more g1.reg h.placed) h.here later2, p.0), behind_more g.reg p.1)
+        let p = fine_sections ss false n2 known k ok.1 le (behind_more (omega (arith, g1.reg, g2.reg)) h) later1 in (
+          (
+            fine_value e n known _ ok.0.0 ok.0.1 (omega (arith, sections_grow ss known)) h.placed h.here
+                (all_lower _ _ (section_declarators o ss false n2 k) g2.reg later2),
+            room_is known n1.reg nt.reg _
+                (placed_more g1.reg h.placed) h.here later2,
+            p.0,
+          ),
+          behind_more g.reg p.1,
+        )
     fine_stmt (tree.While e a) opened n known k ok le h later =
         let o = y.outline in
         let n1 = past_label opened n in
@@ -188,9 +212,14 @@ module _ (y : Layout) (s : Scope) (ds : List ℕ) (reg : (x : ℕ) → y.registe
         let g = grow_label (open_behind a true) n2 in
         let p = fine_stmt a true n1 known k ok.0 le (behind_more (grow_label opened n).reg h)
         (all_lower _ _ k (omega (arith, g.reg, (grow e n3).reg)) later) in
-        let h1 = behind_more g.reg p.1 in
-        ((p.0, fine_value e n3 (locals_behind a known) k (wider s known (locals_behind a known) e
-          (locals_grow a known) ok.1.0) ok.1.1 le h1.placed h1.here later), behind_more (grow e n3).reg h1)
+        let h1 = behind_more g.reg p.1 in (
+          (
+            p.0,
+            fine_value e n3 (locals_behind a known) k (wider s known (locals_behind a known) e
+                (locals_grow a known) ok.1.0) ok.1.1 le h1.placed h1.here later,
+          ),
+          behind_more (grow e n3).reg h1,
+        )
     fine_stmt (tree.For f e d a) opened n known k ok le h later =
         let o = y.outline in
         let n0 = optional_past f n in
@@ -209,16 +238,26 @@ module _ (y : Layout) (s : Scope) (ds : List ℕ) (reg : (x : ℕ) → y.registe
         let later1 = all_lower _ _ (declarators o a true n2 k) g2.reg later2 in
         let h1 = behind_more (omega (arith, g0.reg, g1.reg)) h in
         let p = fine_stmt a true n2 known k ok.3 le (behind_more g2.reg h1) later3 in
-        let h4 = behind_more g4.reg p.1 in
-        ((fine_optional f n known _ ok.0 (omega arith) h.placed h.here
-          (all_lower _ _ (declarators o a true n2 k) g1.reg later1), fine_condition e n1 known _ ok.1
-          (omega arith) h1.placed h1.here later2, p.0, fine_optional d n4 (locals_behind a known) k
-          (wider_optional s known (locals_behind a known) d l ok.2) le h4.placed h4.here later), behind_more g5.reg h4)
+        let h4 = behind_more g4.reg p.1 in (
+          (
+            fine_optional f n known _ ok.0 (omega arith) h.placed h.here
+                (all_lower _ _ (declarators o a true n2 k) g1.reg later1),
+            fine_condition e n1 known _ ok.1
+                (omega arith) h1.placed h1.here later2,
+            p.0,
+            fine_optional d n4 (locals_behind a known) k
+                (wider_optional s known (locals_behind a known) d l ok.2) le h4.placed h4.here later,
+          ),
+          behind_more g5.reg h4,
+        )
     fine_stmt tree.Break opened n known k ok le h later = (tt, h)
     fine_stmt tree.Continue opened n known k ok le h later = (tt, h)
     fine_stmt (tree.Return None) opened n known k ok le h later = (tt, behind_more (grow_stmt y.outline (tree.Return None) opened n).reg h)
-    fine_stmt (tree.Return (Some e)) opened n known k ok le h later = (fine_value e n known k ok.0 ok.1 le h.placed h.here later, behind_more
-      (grow e n).reg h)
+    fine_stmt (tree.Return (Some e)) opened n known k ok le h later = (
+      fine_value e n known k ok.0 ok.1 le h.placed h.here later,
+      behind_more
+          (grow e n).reg h,
+    )
 
     pub fine_sections : (ss : Sections) (opened : Bool) (n : Numbers) (known : ℕ) (k : List ℕ) → AreSections (with_locals s known) ss
         → sections_behind ss known ≤ s.locals → Behind known n.reg (section_declarators y.outline ss opened n k) → AllFrom

@@ -132,9 +132,11 @@ module _ (p : Program) (q : IlProgram) (entry : ℕ → ℕ) (count : ℕ → �
         } in
         let h = ih f sound f.body j j true (first_numbers f) (last_code (layout f).outline.value n) (locals_of (length f.params) args) frame w
         sound.fine there there (record { by = λ t f1 w1 later. runs_is f m t f1 w1 }) (record { turns = wm; agrees = agrees }) in
-        let d = result_meets f m w.turns _ (execute p f f.body (locals_of (length f.params) args) w) h in
-        ((act_is q anything (routine f) (anything_blocks (routine f).blocks) args w).0 ∙ runs_is f m 0 frame w
-        ∙ arrives (setting f m) (body_code (layout f) f) (first_numbers f) frame w ∙ d.0, d.1)
+        let d = result_meets f m w.turns _ (execute p f f.body (locals_of (length f.params) args) w) h in (
+          (act_is q anything (routine f) (anything_blocks (routine f).blocks) args w).0 ∙ runs_is f m 0 frame w
+              ∙ arrives (setting f m) (body_code (layout f) f) (first_numbers f) frame w ∙ d.0,
+          d.1,
+        )
 
     module _ (sound : (pid : ℕ) (f : Function) → function_at p.functions pid ≡ Some f → IsSound f) where
       called_at : (m : ℕ) → Follows m → (args : List ℕ) (w : World S) → w.turns ≤ m → (g : Option Function)

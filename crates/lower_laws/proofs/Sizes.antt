@@ -101,23 +101,23 @@ mutual
       let n3 = past opened n2 in
       let n4 = past_end (past_instr (past_new n3)) in
       both (sized_expr y a n) (both (end_sized _ n1 n2 refl) (both (sized_expr y opened n2)
-        (both (instr_sized _ n3 (past_new n3) refl) (both (instr_sized _ (past_new n3) (past_instr (past_new n3)) refl)
-          (both (end_sized _ (past_instr (past_new n3)) n4 refl) (both (instr_sized _ n4 (past_instr n4) refl) (end_sized _ (past_instr n4) _ refl)))))))
+      (both (instr_sized _ n3 (past_new n3) refl) (both (instr_sized _ (past_new n3) (past_instr (past_new n3)) refl)
+      (both (end_sized _ (past_instr (past_new n3)) n4 refl) (both (instr_sized _ n4 (past_instr n4) refl) (end_sized _ (past_instr n4) _ refl)))))))
   sized_expr y (tree.Conditional t d a opened) n =
       let n1 = past d n in
       let n2 = past_end (result_past t n1) in
       let n3 = past_end (arm_past t (past a n2)) in
       both (sized_expr y d n) (both (end_sized _ n1 n2 (ap suc (result_size t n1)))
-        (both (sized_expr y a n2) (both (sized_arm t _ _ _) (both (end_sized _ _ n3 refl)
-          (both (sized_expr y opened n3) (both (sized_arm t _ _ _) (sized_label (arm_open t opened) _)))))))
+      (both (sized_expr y a n2) (both (sized_arm t _ _ _) (both (end_sized _ _ n3 refl)
+      (both (sized_expr y opened n3) (both (sized_arm t _ _ _) (sized_label (arm_open t opened) _)))))))
   sized_expr y (tree.Comma t a opened) n = both (sized_expr y a n) (sized_expr y opened _)
   sized_expr y (tree.Assign t p e) n = both (sized_place y p n) (both (sized_expr y e _) (instr_sized _ _ _ refl))
   sized_expr y (tree.Compound t o u p e) n = both (sized_place y p n) (both (instr_sized _ _ _ refl)
-    (both (sized_conv u _ _) (both (sized_expr y e _) (sized_update y t o u _ _ _ _))))
+      (both (sized_conv u _ _) (both (sized_expr y e _) (sized_update y t o u _ _ _ _))))
   sized_expr y (tree.Prefix t d p) n = both (sized_place y p n) (both (instr_sized _ _ _ refl)
-    (both (sized_conv (promote t) _ _) (both (instr_sized _ _ _ refl) (sized_update y t _ _ _ _ _ _))))
+      (both (sized_conv (promote t) _ _) (both (instr_sized _ _ _ refl) (sized_update y t _ _ _ _ _ _))))
   sized_expr y (tree.Postfix t d p) n = both (sized_place y p n) (both (instr_sized _ _ _ refl)
-    (both (sized_conv (promote t) _ _) (both (instr_sized _ _ _ refl) (sized_update y t _ _ _ _ _ _))))
+      (both (sized_conv (promote t) _ _) (both (instr_sized _ _ _ refl) (sized_update y t _ _ _ _ _ _))))
   sized_expr y (tree.Call t g es) n = both (sized_arguments y es n) (instr_sized _ _ _ (ap suc (result_size t _)))
   sized_expr y tree.GetChar n = instr_sized _ n _ refl
   sized_expr y (tree.PutChar e) n = both (sized_expr y e n) (instr_sized _ _ _ refl)
@@ -173,21 +173,21 @@ mutual
       (both (sized_expr y e _) (instr_sized _ _ _ refl))
   sized_stmt y p q (tree.Expression e) opened n = sized_expr y e n
   sized_stmt y p q (tree.If e s) opened n = both (sized_expr y e n) (both (end_sized _ _ _ refl)
-    (both (sized_stmt y p q s true _) (sized_label (open_behind s true) _)))
+      (both (sized_stmt y p q s true _) (sized_label (open_behind s true) _)))
   sized_stmt y p q (tree.IfElse e s t) opened n = both (sized_expr y e n)
       (both (end_sized _ _ _ refl) (both (sized_stmt y p q s true _) (both (end_sized _ _ _ refl)
-    (both (sized_stmt y p q t true _) (sized_label (open_behind t true) _)))))
+      (both (sized_stmt y p q t true _) (sized_label (open_behind t true) _)))))
   sized_stmt y p q (tree.Switch e ss) opened n = both (sized_expr y e n)
       (both (sized_tests y _ ss false _ _) (both (end_sized _ _ _ refl) (both (sized_sections y _ q ss false _) (sized_label (sections_open ss false) _))))
   sized_stmt y p q (tree.While e s) opened n = both (sized_label opened n)
       (both (sized_expr y e _) (both (end_sized _ _ _ refl) (both (sized_stmt y _ _ s true _) (end_sized _ _ _ refl))))
   sized_stmt y p q (tree.Do s e) opened n = both (sized_label opened n)
       (both (sized_stmt y _ _ s true _) (both (sized_label (open_behind s true) _)
-    (both (sized_expr y e _) (both (end_sized _ _ (past_end (past e (past_label (open_behind s true)
+      (both (sized_expr y e _) (both (end_sized _ _ (past_end (past e (past_label (open_behind s true)
       (stmt_past y.outline s true (past_label opened n))))) refl) (end_sized _ _ _ refl)))))
   sized_stmt y p q (tree.For f e d s) opened n = both (sized_optional y f n)
       (both (sized_label (optional_open f opened) _) (both (sized_condition y e _ _ _)
-    (both (sized_stmt y _ _ s true _) (both (sized_label (open_behind s true) _) (both (sized_optional y d _) (end_sized _ _ _ refl))))))
+      (both (sized_stmt y _ _ s true _) (both (sized_label (open_behind s true) _) (both (sized_optional y d _) (end_sized _ _ _ refl))))))
   sized_stmt y p q tree.Break opened n = end_sized p n _ refl
   sized_stmt y p q tree.Continue opened n = end_sized q n _ refl
   sized_stmt y p q (tree.Return None) opened n = sized_no_value y.outline.value n

@@ -229,7 +229,7 @@ module _ {S : Type 0} (c : Setting S) where
           let g2 = grow_label o n2 in
           let earlier = λ (t : ℕ) (later : n3.block < t). past_either o n2.block t (omega (arith, g2.block)) in
           let to_end : Leads c n3.block n1 first n3 k =
-              leads_by c n3 (passes_then c (passes_stmt c y p q s true n1 (label_is_past o n2)) (passes_label c o n2 (omega arith))) in
+          leads_by c n3 (passes_then c (passes_stmt c y p q s true n1 (label_is_past o n2)) (passes_label c o n2 (omega arith))) in
           flows_do c {k1 = close (ends.Branch (result e n) n1.block n3.block) first} {n1 = n0} (expr c.c_call c.function e l w) ready.turns (valued e n fine.0 ready)
           (λ v l1 w1 f1 ready1 has1.
           flows_by c (branch_is c f1 w1 n0 n1 refl has1 (leads_here c n1) to_end)
@@ -259,11 +259,11 @@ module _ {S : Type 0} (c : Setting S) where
           let past1 = λ (u : ℕ) (later : n4.block < u). past_either os ns.block u (omega (arith, g2.block, g3.block)) in
           let past2 = λ (u : ℕ) (later : n4.block < u). past_either o n3.block u (omega (arith, g3.block)) in
           let to_second : Leads c n2.block n1 first n2 second =
-              leads_by c n2 (passes_then c (passes_stmt c y p q s true n1 (past_either os _ _ (omega arith))) (passes_close c _ ns n2 refl (omega arith))) in
+          leads_by c n2 (passes_then c (passes_stmt c y p q s true n1 (past_either os _ _ (omega arith))) (passes_close c _ ns n2 refl (omega arith))) in
           let to_end : Leads c n4.block n2 second n4 k =
-              leads_by c n4 (passes_then c (passes_stmt c y p q t true n2 (label_is_past o n3)) (passes_label c o n3 (omega arith))) in
+          leads_by c n4 (passes_then c (passes_stmt c y p q t true n2 (label_is_past o n3)) (passes_label c o n3 (omega arith))) in
           let pass1 = λ (u : ℕ) (later : n4.block < u). passes_then c (passes_close c (ends.Jump n4.block) ns n2 refl (omega (arith, g2.block, g3.block)))
-              (passes_then c (passes_stmt c y p q t true n2 (past2 u later)) (passes_label c {k = k} o n3 (omega arith))) in
+          (passes_then c (passes_stmt c y p q t true n2 (past2 u later)) (passes_label c {k = k} o n3 (omega arith))) in
           let pass2 = λ (u : ℕ) (later : n4.block < u). passes_label c {t = u} {k = k} o n3 (omega arith) in
           let there1 = at_close c E _ true n0 n1 refl (at_open c E (is_open e) n0 (at_expr c E e opened n there)) in
           flows_do c {k1 = close (ends.Branch (result e n) n1.block n2.block) first} {n1 = n0} (expr c.c_call c.function e l w) ready.turns (valued e n fine.0 ready)
@@ -290,7 +290,7 @@ module _ {S : Type 0} (c : Setting S) where
           let whole = code y e n1 test in
           let past1 = past_either os nb.block n3.block (omega arith) in
           let to_end : Leads c n3.block n2 body n3 k =
-              leads_by c n3 (passes_then c (passes_stmt c y _ _ s true n2 past1) (passes_close c _ nb n3 refl (omega arith))) in
+          leads_by c n3 (passes_then c (passes_stmt c y _ _ s true n2 past1) (passes_close c _ nb n3 refl (omega arith))) in
           let there0 = at_label c E opened n there in
           flows_by c (goes_label c whole opened n f w)
           (flows_do c {k1 = test} {n1 = n0} (expr c.c_call c.function e l w) ready.turns (valued e n1 fine.0 ready)
@@ -386,12 +386,12 @@ module _ {S : Type 0} (c : Setting S) where
           let new = result_new c.scope e n fine.0.bound fine.0.has in
           let past1 = λ (t : ℕ) (later : n4.block < t). past_either o n3.block t (omega (arith, g3.block)) in
           let none_is = λ (f1 : Frame) (w1 : World S). (leads_by c {k = last} {k1 = k} n4 (passes_label c o n3 (omega arith))).by f1 w1
-              ∙ sym (goes_label c k o n3 f1 w1) in
+          ∙ sym (goes_label c k o n3 f1 w1) in
           let there1 = at_closed c E nt n2 refl (at_tests c E z ss false n2 n1 (at_expr c E e opened n there)) in
           flows_do c {k1 = tests_code y z ss false n2 n1 jump} {n1 = n1} (expr c.c_call c.function e l w) ready.turns (valued e n fine.0 ready)
           (λ v l1 w1 f1 ready1 has1.
           let tested = tests_meet c {k = jump} z v ss false n2 n1 n4.block f1 w1 has1 (fine.0.room.by z new.from new.below) new.below fine.1 (omega arith)
-              ready1.agrees in
+          ready1.agrees in
           let ready2 : Ready c l1 tested.frame w1 = record { turns = ready1.turns; agrees = tested.agrees } in
           flows_by c tested.runs
           (flows_switched c {k = k} {n = n3} o (meaning.enter c.c_call c.c_again c.function (meaning.is_target v ss) ss l1 w1)

@@ -110,8 +110,8 @@ module _ {S : Type 0} (c : Setting S) where
       let rest = label_tests z ls true (past_label opened there) (test_past n) k in
       let e1 : f1.regs z ≡ v = put_other f.regs n.reg q.0 z (λ h. omega arith) ∙ e in
       let test : f2.regs (suc n.reg) ≡ truth (q.0 == v) =
-          put_here f1.regs (suc n.reg) bit ∙ ap (λ a. truth (a == f1.regs n.reg)) e1 ∙ ap (λ a. truth (v == a)) (put_here f.regs n.reg q.0)
-          ∙ ap truth (swap_test v q.0) in
+      put_here f1.regs (suc n.reg) bit ∙ ap (λ a. truth (a == f1.regs n.reg)) e1 ∙ ap (λ a. truth (v == a)) (put_here f.regs n.reg q.0)
+      ∙ ap truth (swap_test v q.0) in
       let e2 : f2.regs z ≡ v = put_other f1.regs (suc n.reg) bit z (λ h. omega arith) ∙ e1 in
       decided here (q.0 == v)
       (ap (λ a. choose a (from c rest (test_past n) here f2 w) (from c rest (test_past n) (test_past n).block f2 w)) test) a2 kept
@@ -153,7 +153,7 @@ module _ {S : Type 0} (c : Setting S) where
       let tests = tests_code y z rest behind there2 n1 k in
       let is = meaning.is_case v in
       let first = label_tests_meet {k = tests} z v ls opened there n (section_block y.outline is rest behind there2 none) f w e fz zn
-          (room_part (omega arith) g2.reg room) (omega (arith, g2.block)) agrees in
+      (room_part (omega arith) g2.reg room) (omega (arith, g2.block)) agrees in
       joined (list_any is ls) (meaning.some_label is rest) g1.reg first
       (λ found g.
       (passes_tests c y z rest behind there2 n1

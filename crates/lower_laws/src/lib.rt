@@ -4,4 +4,6 @@
 
 mod laws;
 
-pub use laws::{lowered_calls_mean_the_same, lowered_runs_mean_the_same, lowered_sizes_are_numbers};
+pub use laws::{
+    lowered_calls_mean_the_same, lowered_runs_mean_the_same, lowered_sizes_are_numbers,
+};
