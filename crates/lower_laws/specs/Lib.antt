@@ -1,0 +1,9 @@
+pub mod Code
+pub mod Layouts
+pub mod Operations
+pub mod Expressions
+pub mod Switches
+pub mod Statements
+pub mod Functions
+pub mod Bound
+pub mod Laws
