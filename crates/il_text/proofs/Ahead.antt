@@ -6,15 +6,16 @@ use Rattle.il_text.specs.declared.fault.IlKind.TheVariants as kind
 use Rattle.il_text.specs.declared.front.Front.{Front}
 use Rattle.il_text.specs.declared.line.Line.{Line}
 use Rattle.il_text.specs.Faults.{NoNextLine, IsNoNextLine, IsWhole}
-use Rattle.il_text.specs.Feeds.{HasNoFeed}
+use Rattle.text_lines.specs.Feeds.{HasNoFeed}
 use Rattle.il_text.specs.FitFronts.{IsFitFront}
 use Rattle.il_text.specs.Fronts.{front_lines, next}
 use Rattle.il_text.specs.Lines.{IsFitLine, line_words}
 use Rattle.il_text.specs.Texts.{line_bytes, lines_text}
-use Rattle.il_text.specs.Words.{words_of}
+use Rattle.text_lines.specs.Words.{words_of}
 use Rattle.il_text.proofs.FitLines.{AreFit, front_fit}
 use Rattle.il_text.proofs.GrowFronts.{grow}
-use Rattle.il_text.proofs.LineBytes.{words_of_line, line_no_feed, same_line, no_line}
+use Rattle.il_text.proofs.LineBytes.{words_of_line, line_no_feed}
+use Rattle.text_lines.proofs.Plain.{same_line, no_line}
 use Rattle.il_text.proofs.NextLines.{no_line_in}
 use Rattle.il_text.proofs.RunFronts.{run, run_append, run_front, at_start, same_front}
 

@@ -1,6 +1,4 @@
 pub mod Lines
-pub mod WordSplits
-mod Decimals
 mod NamedThings
 mod ReadLists
 mod StatementForms
@@ -10,7 +8,6 @@ mod GrowFronts
 mod PlainWords
 mod LineBytes
 mod FitLines
-pub mod LineSplits
 mod NextLines
 mod KnownItems
 mod Ahead

@@ -10,15 +10,16 @@ use Rattle.il_text.specs.declared.front.Front.{Front}
 use Rattle.il_text.specs.declared.front.Place.TheVariants as place
 use Rattle.il_text.specs.declared.line.Line.{Line}
 use Rattle.il_text.specs.Faults.{line_number, IsNextLine, NoNextLine, IsNoNextLine, IsFirstBadLine, IsLineFault}
-use Rattle.il_text.specs.Feeds.{HasNoFeed}
+use Rattle.text_lines.specs.Feeds.{HasNoFeed}
 use Rattle.il_text.specs.FitFronts.{IsFitFront}
 use Rattle.il_text.specs.Fronts.{front_lines, next}
 use Rattle.il_text.specs.Lines.{IsFitLine, line_words}
 use Rattle.il_text.specs.Texts.{line_bytes, lines_text}
-use Rattle.il_text.specs.Words.{words_of}
+use Rattle.text_lines.specs.Words.{words_of}
 use Rattle.il_text.proofs.FitLines.{AreFit, front_fit, fit_last}
 use Rattle.il_text.proofs.GrowFronts.{grow}
-use Rattle.il_text.proofs.LineBytes.{join_words, words_of_line, line_no_feed, same_line, no_line}
+use Rattle.il_text.proofs.LineBytes.{words_of_line, line_no_feed}
+use Rattle.text_lines.proofs.Plain.{join_words, same_line, no_line}
 use Rattle.il_text.proofs.RunFronts.{next_told}
 
 last_fit : (f g : Front) (l : Line) → IsFitFront g → front_lines g ≡ front_lines f ++ l ∷ [] → IsFitLine l

@@ -27,29 +27,10 @@ use Rattle.il_text.specs.declared.statement.Statement.TheVariants as statement
 use Rattle.il_text.specs.Lines.{IsFitLine, IsFitStatement, line_words, statement_parts}
 use Rattle.il_text.specs.Mnemonics.{mnemonic_text}
 use Rattle.il_text.specs.Parts.{dest_of, name_of, operands_of}
-use Rattle.il_text.proofs.Decimals.{all_digits, without_sign, with_sign}
+use Rattle.text_lines.proofs.Decimals.{without_sign, with_sign}
+use Rattle.text_lines.proofs.Plain.{IsPlain, ArePlain, decimal_plain, lettered_plain, all_plain, name_plain, append_plain}
 use Rattle.il_text.proofs.LineForms.{words_of_sum}
 use Rattle.il_text.proofs.StatementForms.{by_parts, dest_fits}
-
--- each byte is above a space
-abbrev pub IsPlain : List ℕ → Type 0
-IsPlain w = list_all (λ b. nat_lt 32 b) w ≡ true
-
-abbrev pub ArePlain : List (List ℕ) → Type 0
-ArePlain ws = AllByRecursion IsPlain ws
-
-plain_cons : (b : ℕ) (bs : List ℕ) → 32 < b → IsPlain bs → IsPlain (b ∷ bs)
-plain_cons b bs lt h = and_from (nat_lt 32 b) (list_all (λ c. nat_lt 32 c) bs) (lt-ltb 32 b lt) h
-
-digits_plain : (ds : List ℕ) → AllDigits 10 ds → IsPlain ds
-digits_plain [] h = refl
-digits_plain (d ∷ ds) h = let r = tells_digits.parts d ds h in plain_cons d ds (omega (arith, r.0)) (digits_plain ds r.1)
-
-decimal_plain : (n : ℕ) → n < 2 ^ 32 → IsPlain (decimal n)
-decimal_plain n lt = digits_plain (decimal n) (all_digits n (omega arith))
-
-lettered_plain : (c n : ℕ) → 32 < c → n < 2 ^ 32 → IsPlain (c ∷ decimal n)
-lettered_plain c n h lt = plain_cons c (decimal n) h (decimal_plain n lt)
 
 reg_plain : (n : ℕ) → n < 2 ^ 32 → IsPlain (reg n)
 reg_plain n lt = lettered_plain 114 n (omega arith) lt
@@ -125,10 +106,6 @@ type_plain ty.UInt = refl
 type_plain ty.Long = refl
 type_plain ty.ULong = refl
 
-all_plain : {X : Type 0} (spell : X → List ℕ) (fits : X → Type 0) (plain : (x : X) → fits x → IsPlain (spell x)) (xs : List X) → AllByRecursion fits xs → ArePlain (map spell xs)
-all_plain spell fits plain [] h = tt
-all_plain spell fits plain (x ∷ xs) h = (plain x h.0, all_plain spell fits plain xs h.1)
-
 dest_plain : (o : Option ℕ) (ws : List (List ℕ)) → AreWords (option_to_list o) → ArePlain ws → ArePlain (gets_if_some o ws)
 dest_plain None ws h k = k
 dest_plain (Some d) ws h k = (reg_plain d h.0, (refl, k))
@@ -163,13 +140,6 @@ operands_plain (statement.End (ends.Exit r)) h = (reg_plain r h.0, tt)
 statement_plain : (s : Statement) → IsFitStatement s → ArePlain (statement_parts s)
 statement_plain s h = subst ArePlain (sym (by_parts s)) (dest_plain (dest_of s) (mnemonic_text (name_of s) ∷ operands_of s) (dest_fits s h) (mnemonic_plain (name_of s), operands_plain s h))
 
-name_byte : (b : ℕ) → is_name_byte b ≡ true → 32 < b
-name_byte b h = grind (arith, nat_tests)
-
-name_plain : (bs : List ℕ) → list_all is_name_byte bs ≡ true → IsPlain bs
-name_plain [] h = refl
-name_plain (b ∷ bs) h = let r = and_parts (is_name_byte b) (list_all is_name_byte bs) h in plain_cons b bs (name_byte b r.0) (name_plain bs r.1)
-
 init_plain : (ws : List Word) → AreConstants ws → ArePlain (init_parts ws)
 init_plain [] h = tt
 init_plain (w ∷ ws) h = (refl, all_plain word (λ (v : Word). v.0 < 2 ^ 32) word_plain (w ∷ ws) h)
@@ -181,10 +151,6 @@ arrays_plain (n ∷ ns) h = (refl, all_plain decimal (λ m. m < 2 ^ 32) decimal_
 value_plain : (v : Bool) → IsPlain (value_name v)
 value_plain true = refl
 value_plain false = refl
-
-append_plain : (xs bs : List ℕ) → IsPlain xs → IsPlain bs → IsPlain (xs ++ bs)
-append_plain [] bs h k = k
-append_plain (a ∷ xs) bs h k = let r = and_parts (nat_lt 32 a) (list_all (λ b. nat_lt 32 b) xs) h in and_from (nat_lt 32 a) (list_all (λ b. nat_lt 32 b) (xs ++ bs)) r.0 (append_plain xs bs r.1 k)
 
 -- the words of a line that fits are plain
 pub line_plain : (l : Line) → IsFitLine l → ArePlain (line_words l)

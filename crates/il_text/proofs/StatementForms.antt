@@ -17,7 +17,7 @@ use Rattle.il_text.specs.Lines.{IsFitStatement, statement_parts}
 use Rattle.il_text.specs.Mnemonics.{mnemonic_text}
 use Rattle.il_text.specs.Parts.{dest_of, name_of, operands_of}
 use Rattle.il_text.specs.Statements.{AnswersGets, AnswersPlain}
-use Rattle.il_text.proofs.Decimals.{decimal_begins}
+use Rattle.text_lines.proofs.Decimals.{decimal_begins}
 
 abbrev pub clear_of : Option (ℕ × ℕ × ℕ × ℕ) → Option Statement
 clear_of None = None

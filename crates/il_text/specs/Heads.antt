@@ -8,8 +8,8 @@ use Rattle.il_text.specs.declared.header.ObjectHead.{ObjectHead}
 use Rattle.il_text.specs.declared.header.RoutineHead.{RoutineHead}
 use Rattle.il_text.specs.declared.line.NamedObject.{NamedObject}
 use Rattle.il_text.specs.declared.line.NamedRoutine.{NamedRoutine}
-use Rattle.il_text.specs.declared.words.Words.{Words}
-use Rattle.il_text.specs.Words.{words_left}
+use Rattle.text_lines.specs.declared.words.Words.{Words}
+use Rattle.text_lines.specs.Words.{words_left}
 
 abbrev pub object_tail : NamedObject → List (List ℕ)
 object_tail x = decimal x.object.pid ∷ x.name ∷ decimal x.object.words ∷ init_parts x.object.init

@@ -1,6 +1,4 @@
-pub mod Numerals
 pub mod Spaced
-pub mod Words
 pub mod Mnemonics
 pub mod Statements
 pub mod Lines
@@ -10,7 +8,6 @@ pub mod Kinds
 pub mod Fronts
 pub mod FitFronts
 pub mod Texts
-pub mod Feeds
 pub mod Faults
 pub mod Order
 pub mod Known

@@ -10,8 +10,8 @@ use Rattle.il_core.specs.Limits.{IsPid}
 use Rattle.il_core.specs.Text.{reg, array, block, global, word, type_name}
 use Rattle.il_text.specs.declared.statement.Statement.{Statement}
 use Rattle.il_text.specs.declared.statement.Statement.TheVariants as statement
-use Rattle.il_text.specs.declared.words.Words.{Words}
-use Rattle.il_text.specs.Words.{words_left}
+use Rattle.text_lines.specs.declared.words.Words.{Words}
+use Rattle.text_lines.specs.Words.{words_left}
 use Rattle.il_text.specs.declared.mnemonic.Mnemonic.{Mnemonic}
 use Rattle.il_text.specs.declared.mnemonic.Mnemonic.TheVariants as name
 

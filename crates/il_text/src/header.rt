@@ -2,19 +2,19 @@
 ghost use Rattle.std.specs.Prelude.{◌≡◌, ℕ, ◌^◌, ◌<◌, ◌≤◌, ◌∷◌, Bool, List, IfOk, IfSome, IfNone, true, false, codes};
 ghost use Rattle.std.specs.List.{list_all};
 ghost use Rattle.std.specs.Fmt.{decimal};
-ghost use Rattle.hlo_num.specs.Name.{IsName, is_name_byte};
+ghost use Rattle.hlo_num.specs.Name.{IsName};
 ghost use Rattle.il_core.specs.Limits.{IsPid, max_parameters, max_registers};
 ghost use Rattle.il_text.specs.Heads.{AreRead, IsObjectHead, IsObjectHeadOf, IsRoutineHead, IsRoutineHeadOf, object_tail, routine_front, routine_tail};
 ghost use Rattle.il_core.specs.Text.{value_name};
 ghost use Rattle.il_text.specs.Lines.{IsFitHeader, IsFitObject};
-ghost use Rattle.il_text.specs.Words.{words_left, IsRead};
+ghost use Rattle.text_lines.specs.Words.{words_left, IsRead};
 ghost use Rattle.il_text.specs.declared.line.NamedObject.{NamedObject};
 ghost use Rattle.il_text.specs.declared.line.NamedRoutine.{NamedRoutine};
 
 use crate::line::{NamedObject, NamedRoutine};
 use crate::lists::{arrays, init};
 use crate::operands::count;
-use crate::words::{Words, after, next};
+use text_lines::{Words, after, next, next_name};
 use hlo_num::{Name, Seq};
 use il_core::{Object, Routine, limits};
 use std::alloc::{AllocError, Global};
@@ -55,7 +55,7 @@ fn object_head(words: Words<'_>) -> Option<ObjectHead<'_>>
     ensures each { (p : ℕ) (name : List ℕ) (n : ℕ) (ws : List (List ℕ)) → IsPid p → IsName name → 0 < n → n < 2 ^ 32 → words_left words.entry ≡ decimal p ∷ name ∷ decimal n ∷ ws → IsObjectHead result p name n ws }
 {
     let (pid, words) = pid(words)?;
-    let (name, words) = name(words)?;
+    let (name, words) = next_name(words)?;
     let (number, rest) = count(words)?;
     if number == 0 {
         return None;
@@ -80,41 +80,6 @@ fn pid(words: Words<'_>) -> Option<(u32, Words<'_>)>
     } else {
         None
     }
-}
-
-/// A name's bytes, and the words behind it.
-fn name(words: Words<'_>) -> Option<(&[u8], Words<'_>)>
-    ensures found { IfSome result (λ x. words_left words.entry ≡ x.0.now ∷ words_left x.1) }
-    ensures range { IfSome result (λ x. IsName x.0.now) }
-    ensures each { (n : List ℕ) (ws : List (List ℕ)) → IsName n → words_left words.entry ≡ n ∷ ws → IfSome result (λ x. (x.0.now ≡ n) × (words_left x.1 ≡ ws)) }
-    ensures none { IfNone result ((n : List ℕ) (ws : List (List ℕ)) → IsName n → words_left words.entry ≡ n ∷ ws → ⊥) }
-{
-    let (word, rest) = next(words)?;
-    if is_name(word) {
-        Some((word, rest))
-    } else {
-        None
-    }
-}
-
-/// Whether bytes are a name.
-fn is_name(bytes: &[u8]) -> bool
-    ensures yes { result ≡ true → IsName bytes.now }
-    ensures no { result ≡ false → IsName bytes.now → ⊥ }
-{
-    !bytes.is_empty() && all_in_names(bytes)
-}
-
-fn all_in_names(bytes: &[u8]) -> bool
-    ensures { result ≡ list_all is_name_byte bytes.now }
-{
-    bytes.iter().all(|b| is_in_names(*b))
-}
-
-fn is_in_names(b: u8) -> bool
-    ensures { result ≡ is_name_byte b }
-{
-    matches!(b, b'A'..=b'Z' | b'a'..=b'z' | b'0'..=b'9' | b'_' | b'.' | b'$')
 }
 
 /// The first line of a routine up to the elements of its arrays.
@@ -160,7 +125,7 @@ fn routine_head(words: Words<'_>) -> Option<RoutineHead<'_>>
     ensures each { (x : NamedRoutine) (ws : List (List ℕ)) → IsFitHeader x → words_left words.entry ≡ routine_front x ws → IsRoutineHead result x ws }
 {
     let (pid, words) = pid(words)?;
-    let (name, words) = name(words)?;
+    let (name, words) = next_name(words)?;
     let (params, value, words) = params_and_value(words)?;
     let (regs, entry, rest) = regs_and_entry(words)?;
     Some(RoutineHead {

@@ -3,7 +3,6 @@
 
 mod check;
 mod fault;
-mod feeds;
 mod front;
 mod head;
 mod header;
@@ -11,7 +10,6 @@ mod instr;
 mod line;
 mod lists;
 mod mnemonic;
-mod numbers;
 mod operands;
 mod order;
 mod program;
@@ -19,7 +17,6 @@ mod read;
 mod reading;
 mod routine;
 mod statement;
-mod words;
 
 pub use fault::{IlFault, IlKind};
 pub use head::write_head;

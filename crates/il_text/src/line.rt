@@ -3,14 +3,13 @@ ghost use Rattle.std.specs.Prelude.{◌≡◌, ℕ, ◌^◌, ◌<◌, [], ◌∷
 ghost use Rattle.il_core.specs.Text.{block};
 ghost use Rattle.il_text.specs.Kinds.{kind_text, AnswersKind};
 ghost use Rattle.il_text.specs.Lines.{IsFitLine, IsFitStatement, line_words, statement_parts};
-ghost use Rattle.il_text.specs.Words.{words_left, words_of};
+ghost use Rattle.text_lines.specs.Words.{words_left, words_of};
 ghost use Rattle.il_text.specs.declared.line.Kind.{Kind};
 ghost use Rattle.il_text.specs.declared.statement.Statement.{Statement};
 
 use crate::header::{object, routine};
-use crate::numbers::numbered;
 use crate::statement::{Statement, read_statement};
-use crate::words::{Words, after, is_done, next, words_of};
+use text_lines::{Words, after, is_done, next, numbered, words_of};
 use hlo_num::Name;
 use il_core::{Object, Routine};
 use std::alloc::{AllocError, Global};

@@ -6,10 +6,10 @@ ghost use Rattle.il_core.specs.Limits.{max_arrays, max_elements, max_parameters}
 ghost use Rattle.il_core.specs.Object.{IsTrimmed};
 ghost use Rattle.il_core.specs.Ranges.{AreWords, AreConstants};
 ghost use Rattle.il_core.specs.Text.{reg, word, arrays_parts, init_parts};
-ghost use Rattle.il_text.specs.Words.{words_left};
+ghost use Rattle.text_lines.specs.Words.{words_left};
 
 use crate::operands::{constant, count, register};
-use crate::words::{Words, after, is_done};
+use text_lines::{Words, after, is_done};
 use hlo_num::{Seq, Word};
 use il_core::limits;
 use std::alloc::{AllocError, Global};

@@ -6,10 +6,9 @@ ghost use Rattle.hlo_num.specs.declared.word.Ty.{Ty};
 ghost use Rattle.hlo_num.specs.declared.word.Word.{Word};
 ghost use Rattle.il_core.specs.Limits.{IsPid};
 ghost use Rattle.il_core.specs.Text.{reg, array, block, global, word, type_name};
-ghost use Rattle.il_text.specs.Words.{words_left, IsRead};
+ghost use Rattle.text_lines.specs.Words.{words_left, IsRead};
 
-use crate::numbers::{number, numbered, signed};
-use crate::words::{Words, is_done, next};
+use text_lines::{Words, is_done, next, number, numbered, signed};
 use hlo_num::{Ty, Word};
 use il_core::limits;
 

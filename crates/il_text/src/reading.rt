@@ -9,7 +9,7 @@ ghost use Rattle.il_text.specs.declared.line.Line.{Line};
 ghost use Rattle.il_text.specs.declared.front.Front.{Front};
 
 use crate::fault::{IlFault, IlKind};
-use crate::feeds::next_line;
+use text_lines::next_line;
 use crate::front::{Front, Place, step};
 use crate::line::read_line;
 use hlo_num::Seq;

@@ -9,16 +9,15 @@ ghost use Rattle.il_text.specs.Lines.{IsFitStatement, statement_parts};
 ghost use Rattle.il_text.specs.Mnemonics.{mnemonic_text};
 ghost use Rattle.il_text.specs.Statements.{AnswersGets, AnswersPlain, IsCallHead};
 ghost use Rattle.il_text.specs.Parts.{dest_of, name_of, operands_of};
-ghost use Rattle.il_text.specs.Words.{words_left};
+ghost use Rattle.text_lines.specs.Words.{words_left};
 
 use crate::lists::arguments;
 use crate::mnemonic::{Mnemonic, mnemonic_of};
-use crate::numbers::numbered;
 use crate::operands::{
     array_register, array_registers, count, global_register, global_registers, narrow_register,
     only_block, only_constant, only_global, only_register, ranges, register_blocks, registers,
 };
-use crate::words::{Words, after, is_done, next};
+use text_lines::{Words, after, is_done, next, numbered};
 use il_core::{End, Instr, limits};
 use std::alloc::{AllocError, Global};
 

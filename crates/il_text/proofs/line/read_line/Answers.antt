@@ -1,6 +1,6 @@
 use Rattle.std.proofs.Common.{ap, sym, subst, ◌∙◌, Some}
 use Rattle.il_text.specs.Lines.{IsFitLine}
-use Rattle.il_text.specs.Words.{words_left}
+use Rattle.text_lines.specs.Words.{words_left}
 use Rattle.il_text.proofs.LineForms.{no_kind}
 use Rattle.il_text.proofs.line.read_line.Goals as goal
 

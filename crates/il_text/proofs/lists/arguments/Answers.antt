@@ -1,7 +1,7 @@
 use Rattle.std.proofs.Common.{ap, Some, arith}
 use Rattle.hlo_num.specs.Words.{IsWord}
 use Rattle.il_core.specs.Text.{reg}
-use Rattle.il_text.specs.Words.{words_left}
+use Rattle.text_lines.specs.Words.{words_left}
 use Rattle.il_text.proofs.ReadLists.{no_list, one_more, only_these, length_push}
 use Rattle.il_text.proofs.lists.arguments.Goals as goal
 

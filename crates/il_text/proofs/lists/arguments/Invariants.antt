@@ -2,7 +2,7 @@ use Rattle.std.proofs.Common.{◌≤◌, length}
 use Rattle.hlo_num.specs.Words.{IsWord}
 use Rattle.il_core.specs.Limits.{max_parameters}
 use Rattle.il_core.specs.Text.{reg}
-use Rattle.il_text.specs.Words.{words_left}
+use Rattle.text_lines.specs.Words.{words_left}
 use Rattle.il_text.proofs.ReadLists.{IsReadSoFar}
 use Rattle.il_text.proofs.lists.arguments.Given as goal
 

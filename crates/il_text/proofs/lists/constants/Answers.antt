@@ -2,7 +2,7 @@ use Rattle.std.proofs.Common.{ap, Some, arith}
 use Rattle.hlo_num.specs.declared.word.Word.{Word}
 use Rattle.hlo_num.specs.Words.{IsWord}
 use Rattle.il_core.specs.Text.{word}
-use Rattle.il_text.specs.Words.{words_left}
+use Rattle.text_lines.specs.Words.{words_left}
 use Rattle.il_text.proofs.ReadLists.{no_list, one_more, only_these, length_push, last_push}
 use Rattle.il_text.proofs.lists.constants.Goals as goal
 

@@ -3,7 +3,7 @@ use Rattle.hlo_num.specs.declared.word.Word.{Word}
 use Rattle.hlo_num.specs.Words.{IsWord}
 use Rattle.il_core.specs.Object.{ends_with_zero}
 use Rattle.il_core.specs.Text.{word}
-use Rattle.il_text.specs.Words.{words_left}
+use Rattle.text_lines.specs.Words.{words_left}
 use Rattle.il_text.proofs.ReadLists.{IsReadSoFar}
 use Rattle.il_text.proofs.lists.constants.Given as goal
 

@@ -1,7 +1,7 @@
 use Rattle.std.proofs.Common.{ap, Some, arith}
 use Rattle.std.specs.Fmt.{decimal}
 use Rattle.hlo_num.specs.Words.{IsWord}
-use Rattle.il_text.specs.Words.{words_left}
+use Rattle.text_lines.specs.Words.{words_left}
 use Rattle.il_text.proofs.ReadLists.{no_list, one_more, only_these, has_next, length_push, sum_push, sum_at_least}
 use Rattle.il_text.proofs.lists.lengths.Goals as goal
 

@@ -2,7 +2,7 @@ use Rattle.std.proofs.Common.{◌≡◌, ◌≤◌, length, sum}
 use Rattle.std.specs.Fmt.{decimal}
 use Rattle.hlo_num.specs.Words.{IsWord}
 use Rattle.il_core.specs.Limits.{max_arrays, max_elements}
-use Rattle.il_text.specs.Words.{words_left}
+use Rattle.text_lines.specs.Words.{words_left}
 use Rattle.il_text.proofs.ReadLists.{IsReadSoFar}
 use Rattle.il_text.proofs.lists.lengths.Given as goal
 

@@ -1,5 +1,5 @@
 use Rattle.std.proofs.Common.{List, ℕ, ◌∷◌, ap, ◌∙◌}
-use Rattle.il_text.specs.Words.{words_left}
+use Rattle.text_lines.specs.Words.{words_left}
 use Rattle.il_text.proofs.StatementForms.{with_dest}
 use Rattle.il_text.proofs.statement.read_statement.Goals as goal
 

@@ -1,11 +1,11 @@
 //! The lines of a text, each ended by a line feed.
 ghost use Rattle.std.specs.Prelude.{◌≡◌, ◌∷◌, ◌++◌, ◌≤◌, IfSome, IfNone, length};
-ghost use Rattle.il_text.specs.Feeds.{line_len, HasNoFeed};
+ghost use Rattle.text_lines.specs.Feeds.{line_len, HasNoFeed};
 
 /// The bytes up to the next line feed, and those behind it, if there is one. It takes time in proportion to
 /// the line.
 #[tactic(auto, using(crate::proofs::LineSplits::line_split, crate::proofs::LineSplits::line_no_feed_at, crate::proofs::LineSplits::all_no_feed))]
-pub(crate) fn next_line(bytes: &[u8]) -> Option<(&[u8], &[u8])>
+pub fn next_line(bytes: &[u8]) -> Option<(&[u8], &[u8])>
     ensures found { IfSome result (λ x. bytes.now ≡ x.0.now ++ 10 ∷ x.1.now) }
     ensures line { IfSome result (λ x. HasNoFeed x.0.now) }
     ensures none { IfNone result (HasNoFeed bytes.now) }

@@ -1,7 +1,7 @@
 use Rattle.std.proofs.Common.{◌≡◌, ap, ◌∙◌, arith, false}
-use Rattle.il_text.specs.Numerals.{is_padded}
-use Rattle.il_text.proofs.Decimals.{decimal_plain}
-use Rattle.il_text.proofs.numbers.number.Goals as goal
+use Rattle.text_lines.specs.Numerals.{is_padded}
+use Rattle.text_lines.proofs.Decimals.{decimal_plain}
+use Rattle.text_lines.proofs.numbers.number.Goals as goal
 
 pub returns-then-is_padded-clause-each : goal.returns-then-is_padded-clause-each
 returns-then-is_padded-clause-each c = λ n lt e.

@@ -3,7 +3,7 @@ use Rattle.std.proofs.Common.{◌≡◌, ℕ, suc, ◌+◌, ◌-◌, ◌<◌, �
 use Rattle.std.specs.Prelude.{◌==◌}
 use Rattle.std.proofs.lemmas.Bool.{cases_Bool}
 use Rattle.std.proofs.lemmas.List.{take_rest}
-use Rattle.il_text.specs.Words.{onto_first, words_of, first_len}
+use Rattle.text_lines.specs.Words.{onto_first, words_of, first_len}
 
 pub first_len_le : (bs : List ℕ) → first_len bs ≤ length bs
 first_len_le [] = omega arith

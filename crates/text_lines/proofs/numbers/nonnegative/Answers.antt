@@ -1,6 +1,6 @@
 use Rattle.std.proofs.Common.{arith, sym}
-use Rattle.il_text.proofs.Decimals.{signed_nonnegative, word_is}
-use Rattle.il_text.proofs.numbers.nonnegative.Goals as goal
+use Rattle.text_lines.proofs.Decimals.{signed_nonnegative, word_is}
+use Rattle.text_lines.proofs.numbers.nonnegative.Goals as goal
 
 pub returns-then-n-clause-each : goal.returns-then-n-clause-each
 returns-then-n-clause-each c = λ w lt e. word_is c.args.n w (sym (signed_nonnegative w.0 c.args.n lt c.ranges.n.fits e).1)

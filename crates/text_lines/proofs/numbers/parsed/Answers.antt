@@ -1,7 +1,7 @@
 use Rattle.std.proofs.Common.{sym, subst, arith}
 use Rattle.std.specs.Str.{IsUtf8}
-use Rattle.il_text.proofs.Decimals.{read_is_spelled, spelled_is_read, decimal_utf8}
-use Rattle.il_text.proofs.numbers.parsed.Goals as goal
+use Rattle.text_lines.proofs.Decimals.{read_is_spelled, spelled_is_read, decimal_utf8}
+use Rattle.text_lines.proofs.numbers.parsed.Goals as goal
 
 pub returns-in_default-clause-each : goal.returns-in_default-clause-each
 returns-in_default-clause-each c = λ n lt e. absurd (c.in_default.ensures.cases.0 (subst IsUtf8 (sym e) (decimal_utf8 n (omega arith))))

@@ -1,23 +1,23 @@
 //! The words of a line: its parts between single spaces.
 ghost use Rattle.std.specs.Prelude.{◌≡◌, [], ◌∷◌, IfSome, IfNone, List, ℕ, true, false, ◌≤◌, length, option_copied};
-ghost use Rattle.il_text.specs.Words.{first_len, words_in, words_left, words_of};
+ghost use Rattle.text_lines.specs.Words.{first_len, words_in, words_left, words_of};
 
 /// What is left of a line's words.
 #[derive(Clone, Copy)]
-pub(crate) struct Words<'a> {
+pub struct Words<'a> {
     /// The bytes from the next word on, or none behind the last word.
-    pub(crate) rest: Option<&'a [u8]>,
+    pub rest: Option<&'a [u8]>,
 }
 
 /// The words of a line.
-pub(crate) fn words_of(line: &[u8]) -> Words<'_>
+pub fn words_of(line: &[u8]) -> Words<'_>
     ensures { words_left result ≡ words_of line.now }
 {
     Words { rest: Some(line) }
 }
 
 /// The next word and those behind it, if there is one. It takes time in proportion to the word.
-pub(crate) fn next(words: Words<'_>) -> Option<(&[u8], Words<'_>)>
+pub fn next(words: Words<'_>) -> Option<(&[u8], Words<'_>)>
     ensures some { IfSome result (λ x. words_left words.entry ≡ x.0.now ∷ words_left x.1) }
     ensures none { IfNone result (words_left words.entry ≡ []) }
 {
@@ -54,7 +54,7 @@ fn word_len(bytes: &[u8]) -> usize
 }
 
 /// The words behind a word, if that word is the next.
-pub(crate) fn after<'a>(words: Words<'a>, word: &[u8]) -> Option<Words<'a>>
+pub fn after<'a>(words: Words<'a>, word: &[u8]) -> Option<Words<'a>>
     ensures found { IfSome result (λ rest. words_left words.entry ≡ word.now ∷ words_left rest) }
     ensures each { (ws : List (List ℕ)) → words_left words.entry ≡ word.now ∷ ws → IfSome result (λ rest. words_left rest ≡ ws) }
     ensures none { IfNone result ((ws : List (List ℕ)) → words_left words.entry ≡ word.now ∷ ws → ⊥) }
@@ -65,7 +65,7 @@ pub(crate) fn after<'a>(words: Words<'a>, word: &[u8]) -> Option<Words<'a>>
 
 /// Whether no word is left.
 #[tactic(auto, using(crate::proofs::WordSplits::some_word))]
-pub(crate) fn is_done(words: Words<'_>) -> bool
+pub fn is_done(words: Words<'_>) -> bool
     ensures yes { result ≡ true → words_left words.entry ≡ [] }
     ensures no { result ≡ false → words_left words.entry ≡ [] → ⊥ }
 {

@@ -11,7 +11,7 @@ use Rattle.std.proofs.lemmas.Str.Parse.{IsNumeralModel, numerals_by_value, tells
 use Rattle.std.proofs.lemmas.Fmt.{decimal_digit, first_decimal, digits_decimal, decimal-digits_value, decimal_injective, decimal_nonempty, IsAscii-decimal, parse-decimal}
 use Rattle.hlo_num.specs.Words.{signed}
 use Rattle.hlo_num.specs.declared.word.Word.{Word}
-use Rattle.il_text.specs.Numerals.{is_padded}
+use Rattle.text_lines.specs.Numerals.{is_padded}
 
 or_left : (p q : Bool) → (p || q) ≡ false → p ≡ false
 or_left true q h = h

@@ -3,13 +3,13 @@ ghost use Rattle.std.specs.Prelude.{◌≡◌, ◌∷◌, ℕ, ◌^◌, ◌<◌,
 ghost use Rattle.std.specs.Fmt.{decimal, signed_decimal};
 ghost use Rattle.hlo_num.specs.Words.{signed};
 ghost use Rattle.hlo_num.specs.declared.word.Word.{Word};
-ghost use Rattle.il_text.specs.Numerals.{is_padded};
+ghost use Rattle.text_lines.specs.Numerals.{is_padded};
 
 use hlo_num::Word;
 use std::str;
 
 /// The number below 2^32 that a word spells, if it spells one.
-pub(crate) fn number(word: &[u8]) -> Option<u32>
+pub fn number(word: &[u8]) -> Option<u32>
     ensures found { IfSome result (λ n. word.now ≡ decimal n) }
     ensures range { IfSome result (λ n. n < 2 ^ 32) }
     ensures each { (n : ℕ) → n < 2 ^ 32 → word.now ≡ decimal n → result ≡ Some n }
@@ -44,7 +44,7 @@ fn parsed(bytes: &[u8]) -> Option<u32>
 }
 
 /// The number below 2^32 that a word spells behind a letter, if it spells one.
-pub(crate) fn numbered(word: &[u8], letter: u8) -> Option<u32>
+pub fn numbered(word: &[u8], letter: u8) -> Option<u32>
     ensures found { IfSome result (λ n. word.now ≡ letter ∷ decimal n) }
     ensures range { IfSome result (λ n. n < 2 ^ 32) }
     ensures each { (n : ℕ) → n < 2 ^ 32 → word.now ≡ letter ∷ decimal n → result ≡ Some n }
@@ -58,7 +58,7 @@ pub(crate) fn numbered(word: &[u8], letter: u8) -> Option<u32>
 }
 
 /// The machine word that a word spells as a signed number, if it spells one.
-pub(crate) fn signed(word: &[u8]) -> Option<Word>
+pub fn signed(word: &[u8]) -> Option<Word>
     ensures found { IfSome result (λ w. word.now ≡ signed_decimal (signed w.0)) }
     ensures range { IfSome result (λ w. w.0 < 2 ^ 32) }
     ensures each { (w : Word) → w.0 < 2 ^ 32 → word.now ≡ signed_decimal (signed w.0) → result ≡ Some w }

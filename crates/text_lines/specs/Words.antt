@@ -1,6 +1,6 @@
 -- The words of a line.
 use Rattle.std.specs.Prelude.{ℕ, ◌≡◌, ◌+◌, ◌==◌, if◌then◌else◌, List, [], ◌∷◌, Option, Some, None, option_copied}
-use Rattle.il_text.specs.declared.words.Words.{Words}
+use Rattle.text_lines.specs.declared.words.Words.{Words}
 
 -- a byte in front of the first word
 abbrev pub onto_first : ℕ → List (List ℕ) → List (List ℕ)
