@@ -1,14 +1,14 @@
-//! Each alternative of the grammar once, by hand from the rules of C90. Tokens that are no module are rows of the
-//! command.
+//! Each alternative of the grammar once, by hand from the rules of C90. Other tokens that are no module are rows
+//! of the command.
 
 use crate::shown::module;
 use c_lex::scan;
-use c_parse::parse;
+use c_parse::{ParseFault, parse};
 use std::alloc::{AllocError, Global};
 use std::process::Abort;
 use std::test::Fail;
 
-/// The tree of a text.
+/// The tree of a text, or its fault with the line.
 fn shown(alloc: Global, text: &[u8]) -> Result<String, AllocError> {
     let mut out = String::new(alloc);
     if text.len() > 2000 {
@@ -20,7 +20,8 @@ fn shown(alloc: Global, text: &[u8]) -> Result<String, AllocError> {
     };
     match parse(alloc, tokens.as_slice()) {
         Ok(m) => module(&mut out, 16, &m)?,
-        Err(_) => write!(out, "no module")?,
+        Err(ParseFault::At { line, kind }) => write!(out, "{kind:?} {line}")?,
+        Err(ParseFault::Memory) => write!(out, "Memory")?,
     }
     Ok(out)
 }
@@ -121,5 +122,32 @@ fn expressions(rt: HostRuntime) -> Result<(), Fail> {
         ),
     ];
     expect(&rt, rt.alloc(), rows.as_slice())?;
+    Ok(())
+}
+
+/// `int x=`, pairs of parentheses, one to a line, round 1, and `;`.
+fn nested(alloc: Global, pairs: usize) -> Result<Vec<u8>, AllocError> {
+    let mut text = Vec::new(alloc);
+    text.extend_from_slice(b"int x=")?;
+    for _ in 0..pairs {
+        text.extend_from_slice(b"\n(")?;
+    }
+    text.push(b'1')?;
+    for _ in 0..pairs {
+        text.push(b')')?;
+    }
+    text.push(b';')?;
+    Ok(text)
+}
+
+#[test]
+fn heights(rt: HostRuntime) -> Result<(), Fail> {
+    let alloc = rt.alloc();
+    let high = nested(alloc, 255)?;
+    let too_high = nested(alloc, 257)?;
+    let got = shown(alloc, high.as_slice())?;
+    assert!(rt; got.as_str().starts_with("(declare Int  x=(paren (paren "));
+    let got = shown(alloc, too_high.as_slice())?;
+    assert_eq!(rt; got.as_str(), "Deep 257");
     Ok(())
 }
