@@ -1,0 +1,3 @@
+mod ChoiceSamples
+mod GroupSamples
+mod PlanSamples

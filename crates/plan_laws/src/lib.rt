@@ -1,0 +1,2 @@
+//! The plan and its laws.
+#![tactic(auto)]
