@@ -1,3 +1,10 @@
+pub mod Sites
+pub mod Inlines
+pub mod Retargets
+pub mod Naming
+pub mod Adding
+pub mod GroupsFit
+pub mod Passing
 mod ChoiceSamples
 mod GroupSamples
 mod PlanSamples

@@ -20,16 +20,16 @@ abbrev pub inlined_with : (RoutineParts → RoutineParts) → List RoutineParts 
 inlined_with f rs cs r = inlined r (bodies f rs (inline_sites cs r.pid (known_sites r)))
 
 -- with callees inlined down to this depth
-abbrev pub inl_by : List RoutineParts → List Choice → ℕ → RoutineParts → RoutineParts
-inl_by rs cs zero r = r
-inl_by rs cs (suc n) r = inlined_with (inl_by rs cs n) rs cs r
+abbrev pub inlined_by : List RoutineParts → List Choice → ℕ → RoutineParts → RoutineParts
+inlined_by rs cs zero r = r
+inlined_by rs cs (suc n) r = inlined_with (inlined_by rs cs n) rs cs r
 
 -- The inlined routine: at each accepted site the inlined callee, from the last site to the first.
-abbrev pub inl : List RoutineParts → List Choice → RoutineParts → RoutineParts
-inl rs cs r = inl_by rs cs (suc (length cs)) r
+abbrev pub inlined_routine : List RoutineParts → List Choice → RoutineParts → RoutineParts
+inlined_routine rs cs r = inlined_by rs cs (suc (length cs)) r
 
-abbrev pub inl_all : List RoutineParts → List Choice → List RoutineParts
-inl_all rs cs = map (inl rs cs) rs
+abbrev pub inlined_routines : List RoutineParts → List Choice → List RoutineParts
+inlined_routines rs cs = map (inlined_routine rs cs) rs
 
 -- one wave: each routine of this level takes in its callees as they stand
 abbrev pub wave : List Choice → ℕ → List RoutineParts → List RoutineParts

@@ -6,4 +6,5 @@ pub mod Levels
 pub mod Numbers
 pub mod Orders
 pub mod Plan
+pub mod PlanLaws
 pub mod Summary

@@ -17,7 +17,7 @@ use Rattle.plan_laws.specs.Orders.{greatest}
 use Rattle.plan_laws.specs.Summary.{Summary, summaries, numbered}
 use Rattle.plan_laws.specs.Numbers.{Choice}
 use Rattle.plan_laws.specs.Choosing.{choice}
-use Rattle.plan_laws.specs.Inlining.{inl}
+use Rattle.plan_laws.specs.Inlining.{inlined_routine}
 use Rattle.plan_laws.specs.Groups.{Taken, groups, moves}
 
 -- a clone that was made, and the routine of the first program that it comes from, through clones of clones
@@ -105,7 +105,7 @@ one_pass names budget limit st =
     let a = add_clones names (pass_groups budget limit st) st in
     let b = each_routine (retargeted (summaries a.program) a.table (main_pid a.program.shapes) st.next) a in
     let c = each_routine simplify b in
-    let d = each_routine (inl c.program.routines (pass_choice budget limit c)) c in
+    let d = each_routine (inlined_routine c.program.routines (pass_choice budget limit c)) c in
     let e = each_routine simplify d in
     record { added = a; retargeted = b; simplified = c; inlined = d; simplified_again = e; pruned = prune e }
 

@@ -1,2 +1,7 @@
-//! The plan and its laws.
+//! The plan: which programs the optimiser makes one after the other, as a fold over programs that knows
+//! no memory limit, worker or disk. The public functions have no bodies, and their contracts are its laws.
 #![tactic(auto)]
+
+mod meaning;
+
+pub use meaning::{final_keeps, plan_keeps, table_keeps};
