@@ -5,6 +5,7 @@ pub mod Naming
 pub mod Adding
 pub mod GroupsFit
 pub mod Passing
+pub mod Sizes
 mod ChoiceSamples
 mod GroupSamples
 mod PlanSamples
