@@ -4,21 +4,19 @@ use Rattle.std.specs.Prelude.{◌^◌, ◌&&◌, nat_lt, nat_le, if◌then◌els
 use Rattle.std.specs.List.{AllByRecursion}
 use Rattle.std.proofs.lemmas.List.{length-append}
 use Rattle.il_core.specs.declared.program.IlProgram.{IlProgram}
-use Rattle.il_core.specs.declared.shape.Shape.{Shape}
 use Rattle.il_core.specs.declared.shape.Shape.TheVariants as shape
 use Rattle.il_core.specs.declared.shape.ShapeRow.{ShapeRow}
-use Rattle.il_core.specs.Object.{ObjectParts}
 use Rattle.il_core.specs.Program.{found, routine_at, shape_of_row, shape_at, main_pid}
 use Rattle.il_core.specs.Routine.{RoutineParts}
 use Rattle.il_core.specs.Valid.{IsProgram, HasEachNameOnce}
 use Rattle.il_laws.specs.Clone.{make_clone}
 use Rattle.il_laws.specs.CloneLaws.{ClonesAdded}
-use Rattle.il_laws.specs.Growing.{NewClone, row_of, shape_row_of, with_copy, with_clone, CloneFits}
+use Rattle.il_laws.specs.Growing.{NewClone, shape_row_of, with_copy, with_clone, CloneFits}
 use Rattle.il_laws.specs.Keeping.{Stands, MayFollow}
 use Rattle.il_laws.specs.Table.{Row}
 use Rattle.il_laws.proofs.CloneRows.{row_stays}
 use Rattle.il_laws.proofs.ClonesGrown.{is_grown, clones_follow}
-use Rattle.il_laws.proofs.Found.{found_number, found_all}
+use Rattle.il_laws.proofs.Found.{found_all}
 use Rattle.il_laws.proofs.Grown.{all_push, all_to, all_of, found_other}
 use Rattle.il_laws.proofs.Kept.{all_both}
 use Rattle.il_laws.proofs.Programs.{shape_is}
@@ -27,7 +25,7 @@ use Rattle.il_laws.proofs.Shaped.{in_row}
 use Rattle.il_laws.proofs.Tests.{and_left, and_right}
 use Rattle.plan_laws.specs.Summary.{Summary, summary_at}
 use Rattle.plan_laws.specs.Numbers.{Numbers, is_within}
-use Rattle.plan_laws.specs.Groups.{Group, Taken, Spent, clone_fits, more_spent, refused, with_new, with_old, decided, clone_in, clone_numbers, taken}
+use Rattle.plan_laws.specs.Groups.{Group, Taken, Spent, clone_fits, more_spent, refused, with_new, decided, clone_in, clone_numbers, taken}
 use Rattle.plan_laws.specs.Plan.{Made, State, root_of, clones_of, new_clone, add_clone, add_clones}
 use Rattle.plan_laws.proofs.Naming.{RowNamed, name_is, new_for, root_new, named_still, count_new}
 use Rattle.plan_laws.proofs.Retargets.{IsGood}
@@ -206,7 +204,7 @@ module _ (names : List ShapeRow) (once : HasEachNameOnce names) where
           valid = added.follows.valid;
           below = subst (AllByRecursion (λ z. z.pid < suc t.clone)) (sym shapes_are)
               (all_push (λ (z : ShapeRow). z.pid < suc t.clone) p.shapes row
-                (all_to (λ (z : ShapeRow). z.pid < t.clone) (λ z. z.pid < suc t.clone) p.shapes (λ z lt. omega arith) all_above) (omega arith));
+              (all_to (λ (z : ShapeRow). z.pid < t.clone) (λ z. z.pid < suc t.clone) p.shapes (λ z lt. omega arith) all_above) (omega arith));
           table = (
             record { right = added.clones.0.right; shape = added.clones.0.shape },
             all_to (λ (z : Row). IsGood p z × IsBelow st.next z) (IsGood (with_clone p c)) st.table old_row
@@ -218,9 +216,9 @@ module _ (names : List ShapeRow) (once : HasEachNameOnce names) where
           );
           named = subst (AllByRecursion (RowNamed names made1)) (sym shapes_are)
               (all_push (RowNamed names made1) p.shapes row
-                (all_to (λ (z : ShapeRow). (z.pid < t.clone) × RowNamed names st.made z) (RowNamed names made1) p.shapes
-                (λ z h. named_still names st.made t.clone root z h.0 h.1)
-                (all_both (λ (z : ShapeRow). z.pid < t.clone) (RowNamed names st.made) p.shapes all_above sound.named)) new_named);
+              (all_to (λ (z : ShapeRow). (z.pid < t.clone) × RowNamed names st.made z) (RowNamed names made1) p.shapes
+              (λ z h. named_still names st.made t.clone root z h.0 h.1)
+              (all_both (λ (z : ShapeRow). z.pid < t.clone) (RowNamed names st.made) p.shapes all_above sound.named)) new_named);
           few = omega arith;
         }
 
@@ -266,7 +264,7 @@ module _ (names : List ShapeRow) (once : HasEachNameOnce names) where
     fit_one : (g : Group) (gs : List Group) → Rest gs → (b : Spent) (n : Numbers) (st : State) (k : Bool) → clone_fits b limit n ≡ k → IsSound names st
         → length st.program.routines ≤ b.routines → st.next ≤ b.next → GroupFits st.program g → AllByRecursion (GroupFits st.program) gs
         → Added names st (add_clones names
-            ((if k then with_new g b n else refused b).taken ++ taken ss table limit (if k then with_new g b n else refused b).spent gs) st)
+        ((if k then with_new g b n else refused b).taken ++ taken ss table limit (if k then with_new g b n else refused b).spent gs) st)
     fit_one g gs rest b n st false e sound few below fits all = rest b st sound few below all
     fit_one g gs rest b n st true e sound few below fits all =
         let cost = nat_le (b.cost + n.size ^ 2) limit && is_within n in

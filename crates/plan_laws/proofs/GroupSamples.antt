@@ -1,14 +1,12 @@
 -- The clone groups at small call graphs, one for each clause of their rule.
 use Rattle.std.proofs.Common.{◌≡◌, ℕ, List, [], ◌∷◌, map, Bool, refl, true, false}
 use Rattle.std.specs.Prelude.{Option, Some, None}
-use Rattle.hlo_num.specs.declared.word.Word.{Word}
 use Rattle.il_laws.specs.Clone.{Fixed}
 use Rattle.il_laws.specs.Known.{KnownSite}
-use Rattle.il_laws.specs.Retarget.{SiteMove}
 use Rattle.il_laws.specs.Table.{Row}
 use Rattle.il_laws.proofs.Rows.{squaring, squares_to, square, squares}
 use Rattle.plan_laws.specs.Summary.{Summary, summary, summaries, numbered}
-use Rattle.plan_laws.specs.Groups.{Member, Group, Taken, Spent, clone_fits, groups, moves}
+use Rattle.plan_laws.specs.Groups.{Member, Taken, Spent, clone_fits, groups, moves}
 use Rattle.plan_laws.specs.Dead.{reachable, dead_routines}
 
 abbrev fixed_to : ℕ → ℕ → Fixed
@@ -98,8 +96,8 @@ mixed =
     routine 0 5 (true ∷ false ∷ []) false []
     ∷ routine 1 4 (true ∷ []) true []
     ∷ routine 2 9 [] false (
-      calls 0 1 (Some 4 ∷ Some 7 ∷ []) ∷ calls 0 1 (Some 3 ∷ Some 7 ∷ []) ∷ calls 1 2 (Some 5 ∷ []) ∷ calls 0 1 (Some 4 ∷ Some 9 ∷ [])
-      ∷ calls 0 3 (None ∷ Some 7 ∷ []) ∷ calls 1 0 (Some 6 ∷ []) ∷ calls 1 1 (Some 4294967295 ∷ []) ∷ []
+    calls 0 1 (Some 4 ∷ Some 7 ∷ []) ∷ calls 0 1 (Some 3 ∷ Some 7 ∷ []) ∷ calls 1 2 (Some 5 ∷ []) ∷ calls 0 1 (Some 4 ∷ Some 9 ∷ [])
+    ∷ calls 0 3 (None ∷ Some 7 ∷ []) ∷ calls 1 0 (Some 6 ∷ []) ∷ calls 1 1 (Some 4294967295 ∷ []) ∷ []
     )
     ∷ routine 3 6 [] false (calls 2 1 [] ∷ calls 0 1 (Some 4 ∷ None ∷ []) ∷ []) ∷ []
 
@@ -132,7 +130,7 @@ abbrev by_constants : List Summary
 by_constants =
     routine 0 5 (true ∷ true ∷ []) false []
     ∷ routine 3 6 [] false (
-      calls 0 1 (Some 4 ∷ Some 1 ∷ []) ∷ calls 0 1 (None ∷ Some 0 ∷ []) ∷ calls 0 1 (Some 4 ∷ None ∷ []) ∷ calls 0 1 (Some 3 ∷ Some 9 ∷ []) ∷ []
+    calls 0 1 (Some 4 ∷ Some 1 ∷ []) ∷ calls 0 1 (None ∷ Some 0 ∷ []) ∷ calls 0 1 (Some 4 ∷ None ∷ []) ∷ calls 0 1 (Some 3 ∷ Some 9 ∷ []) ∷ []
     ) ∷ []
 
 in_order : map (λ (t : Taken). t.group.members) (groups by_constants [] 3 4 1000000)

@@ -1,5 +1,5 @@
 -- The groups of a valid program: their callees stand, and their constants are of parameters that those have.
-use Rattle.std.proofs.Common.{◌≡◌, ℕ, zero, suc, ◌+◌, ◌<◌, ◌≤◌, List, [], ◌∷◌, ◌++◌, map, option_map, Bool, true, false, refl, ap, subst, sym, ◌∙◌, arith, length}
+use Rattle.std.proofs.Common.{◌≡◌, ℕ, zero, suc, ◌+◌, ◌<◌, ◌≤◌, List, [], ◌∷◌, map, option_map, Bool, true, false, refl, ap, subst, sym, ◌∙◌, arith, length}
 use Rattle.std.specs.Prelude.{nat_eq, if◌then◌else◌, Option, Some, None}
 use Rattle.std.specs.List.{AllByRecursion}
 use Rattle.il_core.specs.declared.program.IlProgram.{IlProgram}
@@ -84,7 +84,7 @@ module _ (p : IlProgram) (valid : IsProgram p) where
   key_below x s =
       let r = s.routine in
       let found : summary_at ss x.site.callee ≡ Some (summary r) =
-          summary_found p.routines x.site.callee ∙ ap (λ (o : Option RoutineParts). option_map summary o) s.is in
+      summary_found p.routines x.site.callee ∙ ap (λ (o : Option RoutineParts). option_map summary o) s.is in
       let size = tests_length (read_in r.blocks) 0 r.params in
       subst (λ (o : Option Summary). AllByRecursion (λ z. z.param < r.params) (fixed_from 0 (reads_of o) x.site.known)) (sym found)
       (fixed_below r.params 0 (tests (read_in r.blocks) 0 r.params) x.site.known (omega arith))
@@ -95,7 +95,7 @@ module _ (p : IlProgram) (valid : IsProgram p) where
   join_if : (k : Bool) (x : CallSite) (g : Group) (gs hs : List Group) → GroupFits p g → AllByRecursion (GroupFits p) gs
       → AllByRecursion (GroupFits p) hs
       → AllByRecursion (GroupFits p)
-        (if k then record g { members = member_of x ∷ g.members; count = x.site.count + g.count } ∷ gs else g ∷ hs)
+      (if k then record g { members = member_of x ∷ g.members; count = x.site.count + g.count } ∷ gs else g ∷ hs)
   join_if true x g gs hs fits h i = (record { callee = fits.callee; is = fits.is; fixed = fits.fixed }, h)
   join_if false x g gs hs fits h i = (fits, i)
 

@@ -6,6 +6,7 @@ pub mod Adding
 pub mod GroupsFit
 pub mod Passing
 pub mod Sizes
+pub mod Spending
 mod ChoiceSamples
 mod GroupSamples
 mod PlanSamples

@@ -1,6 +1,6 @@
 -- All passes: each step leaves a sound state, whose program may follow the one before.
-use Rattle.std.proofs.Common.{◌≡◌, ℕ, zero, suc, ◌<◌, ◌≤◌, List, [], ◌∷◌, ◌++◌, map, true, refl, ap, sym, ◌∙◌, arith, length, inl}
-use Rattle.std.specs.Prelude.{max, Some, filter}
+use Rattle.std.proofs.Common.{◌≡◌, ℕ, zero, suc, ◌<◌, ◌≤◌, List, [], ◌∷◌, map, true, refl, ◌∙◌, arith, length, inl}
+use Rattle.std.specs.Prelude.{max, Some, filter, flat_map}
 use Rattle.std.specs.List.{AllByRecursion}
 use Rattle.std.proofs.lemmas.List.{length-map}
 use Rattle.il_core.specs.declared.program.IlProgram.{IlProgram}
@@ -24,10 +24,10 @@ use Rattle.il_laws.proofs.ReachClosed.{live_calls, main_live}
 use Rattle.il_laws.proofs.Serving.{each_follows, run_kept}
 use Rattle.il_laws.proofs.Simplified.{simplify_serves}
 use Rattle.plan_laws.specs.Orders.{greatest}
-use Rattle.plan_laws.specs.Summary.{summary, summaries, cost_of}
+use Rattle.plan_laws.specs.Summary.{summary, summaries}
 use Rattle.plan_laws.specs.Groups.{ranked_groups, at_start}
 use Rattle.plan_laws.specs.Inlining.{inlined_routine}
-use Rattle.plan_laws.specs.Plan.{State, add_clones, each_routine, retargeted, prune, Pass, pass_groups, pass_choice, one_pass, states_of, limit_of, passes_from, at_first, plan_states, plan, last_program, final}
+use Rattle.plan_laws.specs.Plan.{State, add_clones, each_routine, retargeted, prune, Pass, pass_groups, pass_choice, one_pass, states_of, limit_of, passes_from, at_first, passes as plan_of, plan_states, plan, last_program, final}
 use Rattle.plan_laws.specs.PlanLaws.{HasNoDollar, IsFirst, SameRun, Succeeds, AllSucceed, InTurn, HasRightTable}
 use Rattle.plan_laws.proofs.Adding.{IsBelow, IsSound, Added, grows_itself, all_added}
 use Rattle.plan_laws.proofs.GroupsFit.{groups_fit}
@@ -117,7 +117,7 @@ module _ (names : List ShapeRow) (once : HasEachNameOnce names) where
                 };
               })
               (all_both (λ (row : Row). keep row.clone ≡ true) (IsGood p) rows (filter_pass (λ (row : Row). keep row.clone) st.table)
-                (filter_all (λ (row : Row). keep row.clone) (IsGood p) st.table sound.table));
+              (filter_all (λ (row : Row). keep row.clone) (IsGood p) st.table sound.table));
           table_below = filter_all (λ (row : Row). keep row.clone) (IsBelow st.next) st.table sound.table_below;
           named = filter_all (stays keep) (RowNamed names st.made) p.shapes sound.named;
           few = sound.few;
@@ -142,7 +142,7 @@ module _ (names : List ShapeRow) (once : HasEachNameOnce names) where
       let main = main_pid a.shapes in
       let one = add_step st x.added sound (added budget limit st sound) in
       let two = each_step (retargeted ss x.added.table main st.next) x.added one.sound
-            (retargeted_follows a one.sound.valid x.added.table one.sound.table ss main st.next) in
+      (retargeted_follows a one.sound.valid x.added.table one.sound.table ss main st.next) in
       let three = simplify_step x.retargeted two.sound in
       let c = x.simplified in
       let cs = pass_choice budget limit c in
@@ -152,7 +152,7 @@ module _ (names : List ShapeRow) (once : HasEachNameOnce names) where
       record { added = one; retargeted = two; simplified = three; inlined = four; simplified_again = five; pruned = six }
 
   passes_succeed : (budget : ℕ) (limit : ℕ → ℕ) (left k : ℕ) (st : State) → IsSound names st
-      → AllSucceed st.program (map (λ (z : State). z.program) (passes_from names budget limit k left st))
+      → AllSucceed st.program (map (λ (z : State). z.program) (flat_map states_of (passes_from names budget limit k left st)))
   passes_succeed budget limit zero k st sound = tt
   passes_succeed budget limit (suc left) k st sound =
       let x = one_pass names budget (limit k) st in
@@ -171,7 +171,7 @@ module _ (names : List ShapeRow) (once : HasEachNameOnce names) where
 
   -- every state on the way is sound
   pub all_sound : (budget : ℕ) (limit : ℕ → ℕ) (left k : ℕ) (st : State) → IsSound names st
-      → AllByRecursion (IsSound names) (passes_from names budget limit k left st)
+      → AllByRecursion (IsSound names) (flat_map states_of (passes_from names budget limit k left st))
   all_sound budget limit zero k st sound = tt
   all_sound budget limit (suc left) k st sound =
       let x = one_pass names budget (limit k) st in
@@ -232,8 +232,7 @@ last_run p (q ∷ qs) h input turns = last_run q qs h.1 input turns ∙ h.0.run 
 
 pub final_runs : (p : IlProgram) → IsFirst p → (budget passes : ℕ) → SameRun p (final p budget passes)
 final_runs p first budget passes =
-    last_run p (map (λ (z : State). z.program) (passes_from p.shapes budget (limit_of (cost p.routines) budget passes) 1 passes (at_first p)))
-    (plan_follows p first budget passes)
+    last_run p (map (λ (z : State). z.program) (flat_map states_of (plan_of p budget passes))) (plan_follows p first budget passes)
 
 pub rows_right : (p : IlProgram) → IsFirst p → (budget passes : ℕ) → AllByRecursion HasRightTable (plan_states p budget passes)
 rows_right p first budget passes =

@@ -25,7 +25,7 @@ adding_limit : limit_of 61 1000 1 1 ≡ 671
 adding_limit = refl
 
 adding_final : final adding 1000 1 ≡ program_of (row_of 1 (codes "main") 0 ∷ []) (
-      routine_of 1 0 true 8 1 [] (block_of (Turn ∷ Const 1 (word 5) ∷ []) (Return (Some 1)) ∷ []) ∷ []
+    routine_of 1 0 true 8 1 [] (block_of (Turn ∷ Const 1 (word 5) ∷ []) (Return (Some 1)) ∷ []) ∷ []
     )
 adding_final = refl
 
@@ -53,10 +53,10 @@ adding_nothing = refl
 abbrev calls_clone : RoutineParts
 calls_clone =
     routine_of 1 0 true 9 1 [] (
-      block_of (
-        Const 0 (word 4) ∷ Call (Some 1) 2 1 (0 ∷ []) ∷ Const 2 (word 4) ∷ Call (Some 3) 2 1 (2 ∷ []) ∷ Bin op.AddS 4 1 3
-        ∷ Const 5 (word 4) ∷ Call (Some 6) 2 1 (5 ∷ []) ∷ Bin op.AddS 7 4 6 ∷ []
-      ) (Return (Some 7)) ∷ []
+    block_of (
+    Const 0 (word 4) ∷ Call (Some 1) 2 1 (0 ∷ []) ∷ Const 2 (word 4) ∷ Call (Some 3) 2 1 (2 ∷ []) ∷ Bin op.AddS 4 1 3
+    ∷ Const 5 (word 4) ∷ Call (Some 6) 2 1 (5 ∷ []) ∷ Bin op.AddS 7 4 6 ∷ []
+    ) (Return (Some 7)) ∷ []
     )
 
 abbrev sixteen : ℕ → RoutineParts
@@ -96,16 +96,16 @@ calls_itself =
 abbrev calls_main : RoutineParts
 calls_main =
     routine_of 1 2 true 6 2 [] (
-      block_of [] (Branch 0 1 2)
-      ∷ block_of (Const 2 (word 3) ∷ Call (Some 3) 0 3 (2 ∷ []) ∷ Call (Some 4) 2 3 [] ∷ Bin op.AddS 5 0 4 ∷ []) (Return (Some 5))
-      ∷ block_of [] (Return (Some 0))
-      ∷ []
+    block_of [] (Branch 0 1 2)
+    ∷ block_of (Const 2 (word 3) ∷ Call (Some 3) 0 3 (2 ∷ []) ∷ Call (Some 4) 2 3 [] ∷ Bin op.AddS 5 0 4 ∷ []) (Return (Some 5))
+    ∷ block_of [] (Return (Some 0))
+    ∷ []
     )
 
 abbrev main_to : ℕ → RoutineParts
 main_to f =
     routine_of 2 0 true 4 1 [] (
-      block_of (Const 0 (word 4) ∷ Call (Some 1) f 2 (0 ∷ []) ∷ Call (Some 2) 0 0 (1 ∷ []) ∷ Bin op.AddS 3 1 2 ∷ []) (Return (Some 3)) ∷ []
+    block_of (Const 0 (word 4) ∷ Call (Some 1) f 2 (0 ∷ []) ∷ Call (Some 2) 0 0 (1 ∷ []) ∷ Bin op.AddS 3 1 2 ∷ []) (Return (Some 3)) ∷ []
     )
 
 abbrev three : IlProgram
@@ -114,9 +114,9 @@ three = program_of (rows_of_three 2) (calls_itself ∷ calls_main ∷ main_to 0 
 abbrev clone_of_clone : RoutineParts
 clone_of_clone =
     routine_of 5 1 true 6 2 [] (
-      block_of (
-        Const 0 (word 4) ∷ Turn ∷ Const 3 (word 4) ∷ Call (Some 4) 0 0 (3 ∷ []) ∷ Bin op.SubS 5 3 4 ∷ Move 1 5 ∷ Bin op.SubS 2 0 1 ∷ []
-      ) (Return (Some 2)) ∷ []
+    block_of (
+    Const 0 (word 4) ∷ Turn ∷ Const 3 (word 4) ∷ Call (Some 4) 0 0 (3 ∷ []) ∷ Bin op.SubS 5 3 4 ∷ Move 1 5 ∷ Bin op.SubS 2 0 1 ∷ []
+    ) (Return (Some 2)) ∷ []
     )
 
 three_final : (final three 150 2).routines ≡ calls_itself ∷ main_to 5 ∷ clone_of_clone ∷ []
@@ -140,20 +140,20 @@ three_charge = refl
 abbrev calls_back : RoutineParts
 calls_back =
     routine_of 0 1 true 4 1 [] (
-      block_of (Call (Some 1) 0 1 (0 ∷ []) ∷ Call (Some 2) 2 3 [] ∷ Bin op.AddS 3 0 2 ∷ []) (Return (Some 3)) ∷ []
+    block_of (Call (Some 1) 0 1 (0 ∷ []) ∷ Call (Some 2) 2 3 [] ∷ Bin op.AddS 3 0 2 ∷ []) (Return (Some 3)) ∷ []
     )
 
 abbrev passes_four : RoutineParts
 passes_four =
     routine_of 1 2 true 6 1 [] (
-      block_of (Const 2 (word 4) ∷ Const 3 (word 4) ∷ Call (Some 4) 1 0 (2 ∷ 3 ∷ []) ∷ Bin op.SubS 5 0 4 ∷ []) (Return (Some 5)) ∷ []
+    block_of (Const 2 (word 4) ∷ Const 3 (word 4) ∷ Call (Some 4) 1 0 (2 ∷ 3 ∷ []) ∷ Bin op.SubS 5 0 4 ∷ []) (Return (Some 5)) ∷ []
     )
 
 abbrev fours_to : ℕ → RoutineParts
 fours_to f =
     routine_of 2 0 true 5 3 [] (
-      block_of (Const 0 (word 4) ∷ Call (Some 1) f 2 (0 ∷ []) ∷ Const 2 (word 4) ∷ Call (Some 3) f 2 (2 ∷ []) ∷ Bin op.MulS 4 1 3 ∷ [])
-      (Return (Some 4)) ∷ []
+    block_of (Const 0 (word 4) ∷ Call (Some 1) f 2 (0 ∷ []) ∷ Const 2 (word 4) ∷ Call (Some 3) f 2 (2 ∷ []) ∷ Bin op.MulS 4 1 3 ∷ [])
+    (Return (Some 4)) ∷ []
     )
 
 abbrev back : IlProgram
@@ -162,7 +162,7 @@ back = program_of (rows_of_three 2) (calls_back ∷ passes_four ∷ fours_to 0 �
 abbrev calls_itself_there : RoutineParts
 calls_itself_there =
     routine_of 3 1 true 4 1 [] (
-      block_of (Const 0 (word 4) ∷ Call (Some 1) 3 1 (0 ∷ []) ∷ Call (Some 2) 2 3 [] ∷ Bin op.AddS 3 0 2 ∷ []) (Return (Some 3)) ∷ []
+    block_of (Const 0 (word 4) ∷ Call (Some 1) 3 1 (0 ∷ []) ∷ Call (Some 2) 2 3 [] ∷ Bin op.AddS 3 0 2 ∷ []) (Return (Some 3)) ∷ []
     )
 
 back_final : (final back 40 3).routines ≡ fours_to 3 ∷ calls_itself_there ∷ []

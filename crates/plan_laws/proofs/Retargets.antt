@@ -1,15 +1,14 @@
 -- The calls of routines go to the clones of a right table.
-use Rattle.std.proofs.Common.{◌≡◌, ℕ, zero, suc, ◌+◌, ◌<◌, List, [], ◌∷◌, Bool, true, false, refl, ap, ap₂, subst, sym, ◌∙◌, arith, slice_get, eqb-true}
+use Rattle.std.proofs.Common.{◌≡◌, ℕ, suc, ◌+◌, List, [], ◌∷◌, Bool, true, false, refl, ap, ap₂, subst, sym, ◌∙◌, arith, slice_get, eqb-true}
 use Rattle.std.specs.Prelude.{nat_eq, nat_lt, ◌&&◌, if◌then◌else◌, Option, Some, None}
 use Rattle.std.specs.List.{AllByRecursion}
 use Rattle.std.proofs.lemmas.Option.{none-some, same_Some}
 use Rattle.il_core.specs.declared.program.IlProgram.{IlProgram}
-use Rattle.il_core.specs.Program.{routine_at, shape_at}
 use Rattle.il_core.specs.Routine.{RoutineParts}
 use Rattle.il_core.specs.Valid.{IsProgram, IsValid}
 use Rattle.il_laws.specs.Clone.{Fixed}
 use Rattle.il_laws.specs.Keeping.{Stands, MayFollow, with_each}
-use Rattle.il_laws.specs.Known.{KnownSite, known_from, known_sites}
+use Rattle.il_laws.specs.Known.{KnownSite, known_sites}
 use Rattle.il_laws.specs.Retarget.{SiteMove, retarget, Covers, IsByRow}
 use Rattle.il_laws.specs.Serving.{Serves}
 use Rattle.il_laws.specs.Table.{Row, IsRight, HasCalleesShape}
@@ -57,7 +56,7 @@ module _ (known : List (Option ℕ)) where
       let here : k ≡ k + 0 = omega arith in
       let first = ap (λ (n : ℕ). slice_get known n) here ∙ h 0 o refl in
       let later = λ (i : ℕ) (u : Option ℕ) (e : slice_get os i ≡ Some u).
-          (let there : suc k + i ≡ k + suc i = omega arith in ap (λ (n : ℕ). slice_get known n) there ∙ h (suc i) u e) in
+      (let there : suc k + i ≡ k + suc i = omega arith in ap (λ (n : ℕ). slice_get known n) there ∙ h (suc i) u e) in
       one_covers k b o (fixed_from (suc k) bs os) first (fixed_covers (suc k) bs os later)
 
   key_covers : (bs : List Bool) → Covers known (fixed_from 0 bs known)
@@ -91,7 +90,7 @@ row_for [] P callee fixed clone h e = absurd (none-some clone e)
 row_for (row ∷ rows) P callee fixed clone h e =
     row_if (row ∷ rows) P callee fixed clone row (clone_in rows callee fixed) (is_row_of callee fixed row) refl h.0
     (λ d. (let r = row_for rows P callee fixed clone h.1 d in
-        record { row = r.row; callee_is = r.callee_is; fixed_is = r.fixed_is; clone_is = r.clone_is; holds = r.holds })) e
+    record { row = r.row; callee_is = r.callee_is; fixed_is = r.fixed_is; clone_is = r.clone_is; holds = r.holds })) e
 
 if_some : (b : Bool) (o : Option ℕ) (clone : ℕ) → (if b then o else None) ≡ Some clone → o ≡ Some clone
 if_some true o clone e = e
@@ -139,14 +138,14 @@ module _ (p : IlProgram) (valid : IsProgram p) (table : List Row) (good : AllByR
       let here : k ≡ k + 0 = omega arith in
       let first = ap (λ (n : ℕ). slice_get (known_sites r) n) here ∙ at 0 s refl in
       let later = λ (i : ℕ) (t : KnownSite) (e : slice_get xs i ≡ Some t).
-          (let there : suc k + i ≡ k + suc i = omega arith in ap (λ (n : ℕ). slice_get (known_sites r) n) there ∙ at (suc i) t e) in
+      (let there : suc k + i ≡ k + suc i = omega arith in ap (λ (n : ℕ). slice_get (known_sites r) n) there ∙ at (suc i) t e) in
       with_moves r k s (clone_of_site ss table main (record { caller = r.pid; number = k; site = s }))
       (moves ss table main (numbered r.pid (suc k) xs)) first stand.0 refl (all_moves r (suc k) xs later stand.1)
 
   moved_serves : (r : RoutineParts) → IsValid p.shapes r → Serves p r (retarget r (moves ss table main (numbered r.pid 0 (known_sites r))))
   moved_serves r ok =
       let here = λ (i : ℕ) (s : KnownSite) (e : slice_get (known_sites r) i ≡ Some s).
-          (let same : 0 + i ≡ i = omega arith in ap (λ (n : ℕ). slice_get (known_sites r) n) same ∙ e) in
+      (let same : 0 + i ≡ i = omega arith in ap (λ (n : ℕ). slice_get (known_sites r) n) same ∙ e) in
       let stand = all_stand p r 0 r.blocks (valid_calls p valid r ok) in
       retarget_serves p valid r (moves ss table main (numbered r.pid 0 (known_sites r))) ok (all_moves r 0 (known_sites r) here stand)
 

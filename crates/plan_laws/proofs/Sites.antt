@@ -1,6 +1,6 @@
 -- A summary's sites are the calls of its routine; the accepted ones among them fall, and each calls its callee.
-use Rattle.std.proofs.Common.{◌≡◌, ℕ, zero, suc, ◌+◌, ◌<◌, List, [], ◌∷◌, ◌++◌, map, option_map, Bool, true, false, refl, ap, ap₂, subst, sym, ◌∙◌, arith, slice_get}
-use Rattle.std.specs.Prelude.{Option, Some, None, ⊤}
+use Rattle.std.proofs.Common.{◌≡◌, ℕ, suc, ◌+◌, ◌<◌, List, [], ◌∷◌, ◌++◌, map, option_map, Bool, true, false, refl, ap, ap₂, sym, ◌∙◌, arith, slice_get}
+use Rattle.std.specs.Prelude.{Option, Some, ⊤}
 use Rattle.std.specs.List.{AllByRecursion}
 use Rattle.std.proofs.lemmas.Option.{slice_get-map}
 use Rattle.il_core.specs.declared.instr.Block.{Block}
@@ -90,12 +90,12 @@ walk_all cs pid bs k (x ∷ xs) lower h w =
     let here : k ≡ k + 0 = omega arith in
     let at = ap (λ (n : ℕ). slice_get (callees bs) n) here ∙ h 0 x refl in
     let later = λ (i : ℕ) (y : KnownSite) (e : slice_get xs i ≡ Some y).
-        (let there : suc k + i ≡ k + suc i = omega arith in ap (λ (n : ℕ). slice_get (callees bs) n) there ∙ h (suc i) y e) in
+    (let there : suc k + i ≡ k + suc i = omega arith in ap (λ (n : ℕ). slice_get (callees bs) n) there ∙ h (suc i) y e) in
     walk_all cs pid bs (suc k) xs (if_chosen (is_chosen cs pid k) k x lower) later (walk_one bs k x (is_chosen cs pid k) lower at w)
 
 pub sites_fall : (cs : List Choice) (r : RoutineParts)
     → AreFalling (inline_sites cs r.pid (known_sites r)) × AllByRecursion (CallsIt r.blocks) (inline_sites cs r.pid (known_sites r))
 sites_fall cs r =
     let here = λ (i : ℕ) (x : KnownSite) (e : slice_get (known_sites r) i ≡ Some x).
-        (let same : 0 + i ≡ i = omega arith in ap (λ (n : ℕ). slice_get (callees r.blocks) n) same ∙ known_calls r i x e) in
+    (let same : 0 + i ≡ i = omega arith in ap (λ (n : ℕ). slice_get (callees r.blocks) n) same ∙ known_calls r i x e) in
     walk_all cs r.pid r.blocks 0 (known_sites r) [] here (record { below = tt; fall = tt; calls = tt })

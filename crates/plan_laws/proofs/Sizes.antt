@@ -87,7 +87,7 @@ module _ (p : IlProgram) (valid : IsProgram p) (cs : List Choice) where
         let sites = inline_sites cs q.pid (known_sites q) in
         let fall = sites_fall cs q in
         let sizes = inlined_sizes p valid q (bodies f rs sites) (routine_valid p valid x q e) (bodies_fall p valid f h.serves sites fall.0)
-              (bodies_serve p valid f h.serves q sites fall.1) in
+        (bodies_serve p valid f h.serves q sites fall.1) in
         let w = walk (own (summary q)) sites in
         record {
           numbers = record {

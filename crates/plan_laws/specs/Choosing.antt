@@ -31,7 +31,7 @@ abbrev pub accepted : List Summary → ℕ → ℕ → List Choice → List Call
 accepted ss main limit cs [] = cs
 accepted ss main limit cs (x ∷ xs) =
     if is_candidate main x && may_inline ss limit (cs ++ chosen_site x ∷ []) then
-      accepted ss main limit (cs ++ chosen_site x ∷ []) xs
+    accepted ss main limit (cs ++ chosen_site x ∷ []) xs
     else accepted ss main limit cs xs
 
 -- The inline choice.

@@ -1,6 +1,6 @@
 -- The plan: in each pass clones are added, calls retargeted, all routines simplified, sites inlined, all routines
 -- simplified, and dead routines removed.
-use Rattle.std.specs.Prelude.{ℕ, zero, suc, ◌+◌, ◌*◌, ◌/◌, List, [], ◌∷◌, ◌++◌, codes, decimal, filter, map, nat_eq, nat_lt, if◌then◌else◌}
+use Rattle.std.specs.Prelude.{ℕ, zero, suc, ◌+◌, ◌*◌, ◌/◌, List, [], ◌∷◌, ◌++◌, codes, decimal, filter, flat_map, map, nat_eq, nat_lt, if◌then◌else◌}
 use Rattle.il_core.specs.declared.program.IlProgram.{IlProgram}
 use Rattle.il_core.specs.declared.shape.ShapeRow.{ShapeRow}
 use Rattle.il_core.specs.Program.{name_at, main_pid}
@@ -116,19 +116,22 @@ states_of x = x.added ∷ x.retargeted ∷ x.simplified ∷ x.inlined ∷ x.simp
 abbrev pub limit_of : ℕ → ℕ → ℕ → ℕ → ℕ
 limit_of cost0 budget n k = cost0 + cost0 * budget * k / (100 * n)
 
--- the states of so many passes, from pass k on
-abbrev pub passes_from : List ShapeRow → ℕ → (ℕ → ℕ) → ℕ → ℕ → State → List State
+-- so many passes, from pass k on
+abbrev pub passes_from : List ShapeRow → ℕ → (ℕ → ℕ) → ℕ → ℕ → State → List Pass
 passes_from names budget limit k zero st = []
 passes_from names budget limit k (suc left) st =
     let x = one_pass names budget (limit k) st in
-    states_of x ++ passes_from names budget limit (suc k) left x.pruned
+    x ∷ passes_from names budget limit (suc k) left x.pruned
 
 -- at the start the next PID is above all of the program's
 abbrev pub at_first : IlProgram → State
 at_first p = record { program = p; table = []; next = greatest (λ row. suc row.pid) p.shapes; made = [] }
 
+abbrev pub passes : IlProgram → ℕ → ℕ → List Pass
+passes p budget n = passes_from p.shapes budget (limit_of (cost p.routines) budget n) 1 n (at_first p)
+
 abbrev pub plan_states : IlProgram → ℕ → ℕ → List State
-plan_states p budget n = at_first p ∷ passes_from p.shapes budget (limit_of (cost p.routines) budget n) 1 n (at_first p)
+plan_states p budget n = at_first p ∷ flat_map states_of (passes p budget n)
 
 -- The programs of the plan, for a budget in percent and a number of passes: the first program, and six for each pass.
 abbrev pub plan : IlProgram → ℕ → ℕ → List IlProgram

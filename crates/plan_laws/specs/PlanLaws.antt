@@ -1,13 +1,19 @@
 -- The laws of the plan.
-use Rattle.std.specs.Prelude.{◌≡◌, ℕ, ◌+◌, ◌*◌, ◌≤◌, List, [], ◌∷◌, ◌++◌, map, ⊤}
+use Rattle.std.specs.Prelude.{◌≡◌, ℕ, suc, ◌+◌, ◌*◌, ◌≤◌, List, [], ◌∷◌, Some, length, slice_get, sum, ⊤}
 use Rattle.std.specs.List.{AllByRecursion}
 use Rattle.il_core.specs.declared.program.IlProgram.{IlProgram}
 use Rattle.il_core.specs.declared.shape.ShapeRow.{ShapeRow}
+use Rattle.il_core.specs.Program.{routine_at}
+use Rattle.il_core.specs.Routine.{RoutineParts}
+use Rattle.il_core.specs.Size.{size, cost}
 use Rattle.il_core.specs.Valid.{IsProgram}
 use Rattle.il_core.specs.Meaning.{il_run}
 use Rattle.il_laws.specs.Keeping.{MayFollow}
-use Rattle.il_laws.specs.Table.{Row, IsRight, HasCalleesShape}
-use Rattle.plan_laws.specs.Plan.{State, plan_states, plan, final}
+use Rattle.il_laws.specs.Table.{IsRight, HasCalleesShape}
+use Rattle.plan_laws.specs.Inlining.{inlined_routine, inlined_routines}
+use Rattle.plan_laws.specs.Numbers.{Choice, Numbers, inlined_numbers, cost_after}
+use Rattle.plan_laws.specs.Plan.{State, Pass, limit_of, passes, plan_states, plan, final}
+use Rattle.plan_laws.specs.Summary.{summary, summaries}
 
 -- no name has a `$`
 abbrev pub HasNoDollar : ShapeRow → Type 0
@@ -51,3 +57,38 @@ pub record HasRightTable (st : State) : Type 0 where
 -- Each row of the clone table is right, in every state of the plan.
 abbrev pub RowsRight : Type 0
 RowsRight = (p : IlProgram) → IsFirst p → (budget passes : ℕ) → AllByRecursion HasRightTable (plan_states p budget passes)
+
+-- each program of a pass costs at most so much
+pub record IsWithin (limit : ℕ) (x : Pass) : Type 0 where
+  pub added : cost x.added.program.routines ≤ limit
+  pub retargeted : cost x.retargeted.program.routines ≤ limit
+  pub simplified : cost x.simplified.program.routines ≤ limit
+  pub inlined : cost x.inlined.program.routines ≤ limit
+  pub simplified_again : cost x.simplified_again.program.routines ≤ limit
+  pub pruned : cost x.pruned.program.routines ≤ limit
+
+-- Each program of pass k + 1 costs at most that pass's limit.
+abbrev pub PassesWithin : Type 0
+PassesWithin = (p : IlProgram) → IsFirst p → (budget n k : ℕ) (x : Pass) → slice_get (passes p budget n) k ≡ Some x
+    → IsWithin (limit_of (cost p.routines) budget n (suc k)) x
+
+-- The budget is kept: the cost rises by at most so many percent.
+abbrev pub BudgetKept : Type 0
+BudgetKept = (p : IlProgram) → IsFirst p → (budget n : ℕ)
+    → 100 * cost (final p budget n).routines ≤ cost p.routines * (100 + budget)
+
+-- a routine has these numbers
+pub record HasNumbers (r : RoutineParts) (n : Numbers) : Type 0 where
+  pub size : size r ≡ n.size
+  pub regs : r.regs ≡ n.regs
+  pub arrays : length r.arrays ≡ n.arrays
+  pub elements : sum r.arrays ≡ n.elements
+
+-- The inlined routine has exactly the numbers that the choice computes, whatever sites were accepted.
+abbrev pub NumbersKnown : Type 0
+NumbersKnown = (p : IlProgram) → IsProgram p → (cs : List Choice) (x : ℕ) (r : RoutineParts) → routine_at p.routines x ≡ Some r
+    → HasNumbers (inlined_routine p.routines cs r) (inlined_numbers (summaries p) cs (summary r))
+
+-- so the cost is the one that it computes
+abbrev pub CostKnown : Type 0
+CostKnown = (p : IlProgram) → IsProgram p → (cs : List Choice) → cost (inlined_routines p.routines cs) ≡ cost_after (summaries p) cs

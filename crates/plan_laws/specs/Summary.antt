@@ -1,6 +1,5 @@
 -- What the plan knows of a routine.
-use Rattle.std.specs.Prelude.{ℕ, zero, suc, ◌+◌, ◌^◌, Bool, List, [], ◌∷◌, length, Option, map, flat_map, sum, sum_by}
-use Rattle.il_core.specs.declared.instr.Block.{Block}
+use Rattle.std.specs.Prelude.{ℕ, zero, suc, ◌^◌, Bool, List, [], ◌∷◌, length, Option, map, flat_map, sum, sum_by}
 use Rattle.il_core.specs.declared.program.IlProgram.{IlProgram}
 use Rattle.il_core.specs.Program.{found}
 use Rattle.il_core.specs.Routine.{RoutineParts}

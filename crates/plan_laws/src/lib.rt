@@ -2,6 +2,8 @@
 //! no memory limit, worker or disk. The public functions have no bodies, and their contracts are its laws.
 #![tactic(auto)]
 
+mod costs;
 mod meaning;
 
+pub use costs::{budget_kept, numbers_known, passes_within};
 pub use meaning::{final_keeps, plan_keeps, table_keeps};
