@@ -5,6 +5,7 @@ pub mod Naming
 pub mod Adding
 pub mod GroupsFit
 pub mod Passing
+pub mod Levels
 pub mod Sizes
 pub mod Spending
 mod ChoiceSamples

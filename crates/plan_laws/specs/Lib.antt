@@ -6,5 +6,6 @@ pub mod Levels
 pub mod Numbers
 pub mod Orders
 pub mod Plan
+pub mod ChoiceLaws
 pub mod PlanLaws
 pub mod Summary

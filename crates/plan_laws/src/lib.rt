@@ -2,8 +2,10 @@
 //! no memory limit, worker or disk. The public functions have no bodies, and their contracts are its laws.
 #![tactic(auto)]
 
+mod choosing;
 mod costs;
 mod meaning;
 
+pub use choosing::{levels_fall};
 pub use costs::{budget_kept, numbers_known, passes_within};
 pub use meaning::{final_keeps, plan_keeps, table_keeps};
