@@ -6,6 +6,8 @@ pub mod Adding
 pub mod GroupsFit
 pub mod Passing
 pub mod Levels
+pub mod Waves
+pub mod Chosen
 pub mod Sizes
 pub mod Spending
 mod ChoiceSamples

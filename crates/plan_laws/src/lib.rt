@@ -6,6 +6,6 @@ mod choosing;
 mod costs;
 mod meaning;
 
-pub use choosing::{levels_fall};
+pub use choosing::{choice_fits, levels_fall, waves_agree};
 pub use costs::{budget_kept, numbers_known, passes_within};
 pub use meaning::{final_keeps, plan_keeps, table_keeps};
