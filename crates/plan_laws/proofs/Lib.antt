@@ -8,6 +8,8 @@ pub mod Passing
 pub mod Levels
 pub mod Waves
 pub mod Chosen
+pub mod InstrLimits
+pub mod RoutineLimits
 pub mod Sizes
 pub mod Spending
 mod ChoiceSamples

@@ -92,7 +92,7 @@ row_for (row ∷ rows) P callee fixed clone h e =
     (λ d. (let r = row_for rows P callee fixed clone h.1 d in
     record { row = r.row; callee_is = r.callee_is; fixed_is = r.fixed_is; clone_is = r.clone_is; holds = r.holds })) e
 
-if_some : (b : Bool) (o : Option ℕ) (clone : ℕ) → (if b then o else None) ≡ Some clone → o ≡ Some clone
+pub if_some : (b : Bool) (o : Option ℕ) (clone : ℕ) → (if b then o else None) ≡ Some clone → o ≡ Some clone
 if_some true o clone e = e
 if_some false o clone e = absurd (none-some clone e)
 

@@ -105,7 +105,7 @@ module _ (names : List ShapeRow) (p : IlProgram) (valid : IsProgram p) (table : 
       → cost (add_clones names (taken ss table limit b gs) st).program.routines ≤ limit
 
   -- the routine of a summary
-  routine_of : (x : ℕ) (s : Summary) (o : Option RoutineParts) → routine_at p.routines x ≡ o → option_map summary o ≡ Some s
+  pub routine_of : (x : ℕ) (s : Summary) (o : Option RoutineParts) → routine_at p.routines x ≡ o → option_map summary o ≡ Some s
       → (r : RoutineParts) × (routine_at p.routines x ≡ Some r) × (summary r ≡ s)
   routine_of x s None e h = absurd (none-some s h)
   routine_of x s (Some r) e h = (r, e, same_Some (summary r) s h)
@@ -181,7 +181,7 @@ added_cost names (suc budget) limit st valid le =
     (omega arith) (omega arith) (λ x r e. e)
 
 -- nothing chosen: nothing changes
-none_chosen : (pid k : ℕ) (xs : List KnownSite) → falling [] pid k xs [] ≡ []
+pub none_chosen : (pid k : ℕ) (xs : List KnownSite) → falling [] pid k xs [] ≡ []
 none_chosen pid k [] = refl
 none_chosen pid k (x ∷ xs) = none_chosen pid (suc k) xs
 

@@ -1,5 +1,5 @@
 -- Inlining wave by wave is inlining by recursion, where the accepted sites' levels fall.
-use Rattle.std.proofs.Common.{◌≡◌, ℕ, zero, suc, ◌+◌, ◌<◌, ◌≤◌, List, [], ◌∷◌, map, option_map, Bool, true, false, refl, ap, ap₂, subst, sym, ◌∙◌, arith, length, slice_get, eqb-true, eq-eqb, le-leb, leb-true}
+use Rattle.std.proofs.Common.{◌≡◌, ℕ, zero, suc, ◌+◌, ◌<◌, ◌≤◌, List, [], ◌∷◌, map, option_map, Bool, true, false, refl, ap, ap₂, subst, sym, ◌∙◌, arith, length, eqb-true, eq-eqb, le-leb, leb-true}
 use Rattle.std.specs.Prelude.{max, nat_eq, nat_le, if◌then◌else◌, Option, Some, None}
 use Rattle.std.specs.List.{AllByRecursion}
 use Rattle.il_core.specs.Program.{routine_at}
@@ -13,7 +13,6 @@ use Rattle.plan_laws.specs.Orders.{greatest}
 use Rattle.plan_laws.specs.Numbers.{Choice, InlineSite, inline_sites}
 use Rattle.plan_laws.specs.Levels.{calls_from, chain, level, height}
 use Rattle.plan_laws.specs.Inlining.{body_for, bodies, inlined_with, inlined_by, inlined_routine, inlined_routines, wave, by_waves}
-use Rattle.plan_laws.proofs.Levels.{chain_stays}
 
 spliced_pid : (r s : RoutineParts) (o : Option Site) → (spliced r s o).pid ≡ r.pid
 spliced_pid r s None = refl
@@ -147,9 +146,11 @@ module _ (cs : List Choice) where
         → AllByRecursion (λ x. option_map (λ q. q) (routine_at (after_waves k) x.callee) ≡ option_map whole (routine_at rs x.callee)) xs
     done_callees k [] h = tt
     done_callees k (x ∷ xs) h =
-        let lt = h.0 in
-        (ap (λ (o : Option RoutineParts). option_map (λ q. q) o) (found_map (λ r. r.pid) (done k) x.callee rs (keep_pids k rs))
-        ∙ done_callee k x.callee (routine_at rs x.callee) refl (omega arith), done_callees k xs h.1)
+        let lt = h.0 in (
+          ap (λ (o : Option RoutineParts). option_map (λ q. q) o) (found_map (λ r. r.pid) (done k) x.callee rs (keep_pids k rs))
+              ∙ done_callee k x.callee (routine_at rs x.callee) refl (omega arith),
+          done_callees k xs h.1,
+        )
 
     abbrev by_level : ℕ → RoutineParts → RoutineParts
     by_level k r = if nat_eq (level cs r.pid) (suc k) then inlined_with (λ q. q) (after_waves k) cs r else r
@@ -208,6 +209,7 @@ module _ (cs : List Choice) where
             let le = leb-true (level cs r.pid) 0 e in
             none (length cs) (level cs r.pid) r (sites r) (omega arith) h
         one r false h e = refl
+
         each : (xs : List RoutineParts) → AllByRecursion SitesFall xs → map (done 0) xs ≡ xs
         each [] h = refl
         each (x ∷ xs) h = ap₂ {A = RoutineParts} {B = List RoutineParts} {C = List RoutineParts} (λ y ys. y ∷ ys)

@@ -3,6 +3,7 @@ use Rattle.std.specs.Prelude.{◌≡◌, ℕ, suc, ◌+◌, ◌*◌, ◌≤◌, 
 use Rattle.std.specs.List.{AllByRecursion}
 use Rattle.il_core.specs.declared.program.IlProgram.{IlProgram}
 use Rattle.il_core.specs.declared.shape.ShapeRow.{ShapeRow}
+use Rattle.il_core.specs.Limits.{IsWithinLimits}
 use Rattle.il_core.specs.Program.{routine_at}
 use Rattle.il_core.specs.Routine.{RoutineParts}
 use Rattle.il_core.specs.Size.{size, cost}
@@ -92,3 +93,8 @@ NumbersKnown = (p : IlProgram) → IsProgram p → (cs : List Choice) (x : ℕ) 
 -- so the cost is the one that it computes
 abbrev pub CostKnown : Type 0
 CostKnown = (p : IlProgram) → IsProgram p → (cs : List Choice) → cost (inlined_routines p.routines cs) ≡ cost_after (summaries p) cs
+
+-- Where each routine of the first program is within the limits of the language, so is each of every program.
+abbrev pub LimitsKept : Type 0
+LimitsKept = (p : IlProgram) → IsFirst p → AllByRecursion IsWithinLimits p.routines → (budget n : ℕ)
+    → AllByRecursion (λ q. AllByRecursion IsWithinLimits q.routines) (plan p budget n)

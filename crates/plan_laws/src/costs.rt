@@ -1,6 +1,6 @@
 //! The laws of sizes and costs.
 
-ghost use Rattle.plan_laws.specs.PlanLaws.{PassesWithin, BudgetKept, NumbersKnown, CostKnown};
+ghost use Rattle.plan_laws.specs.PlanLaws.{PassesWithin, BudgetKept, NumbersKnown, CostKnown, LimitsKept};
 
 /// Each program of a pass costs at most that pass's limit.
 pub fn passes_within()
@@ -17,4 +17,9 @@ pub fn budget_kept()
 pub fn numbers_known()
     ensures numbers { NumbersKnown }
     ensures cost { CostKnown }
+{}
+
+/// Every routine of every program of the plan is within the limits of the language.
+pub fn limits_kept()
+    ensures { LimitsKept }
 {}

@@ -7,5 +7,5 @@ mod costs;
 mod meaning;
 
 pub use choosing::{choice_fits, levels_fall, waves_agree};
-pub use costs::{budget_kept, numbers_known, passes_within};
+pub use costs::{budget_kept, limits_kept, numbers_known, passes_within};
 pub use meaning::{final_keeps, plan_keeps, table_keeps};
