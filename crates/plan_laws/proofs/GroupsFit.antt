@@ -89,7 +89,8 @@ module _ (p : IlProgram) (valid : IsProgram p) where
       subst (λ (o : Option Summary). AllByRecursion (λ z. z.param < r.params) (fixed_from 0 (reads_of o) x.site.known)) (sym found)
       (fixed_below r.params 0 (tests (read_in r.blocks) 0 r.params) x.site.known (omega arith))
 
-  new_fits : (x : CallSite) → CalleeStands x → GroupFits p (record { callee = x.site.callee; fixed = fixed_of ss x; members = member_of x ∷ []; count = x.site.count })
+  new_fits : (x : CallSite) → CalleeStands x
+      → GroupFits p (record { callee = x.site.callee; fixed = fixed_of ss x; members = member_of x ∷ []; count = x.site.count })
   new_fits x s = record { callee = s.routine; is = s.is; fixed = key_below x s }
 
   join_if : (k : Bool) (x : CallSite) (g : Group) (gs hs : List Group) → GroupFits p g → AllByRecursion (GroupFits p) gs

@@ -19,11 +19,14 @@ module _ (f : Choice → ℕ) where
   caller_least pid [] = tt
   caller_least pid (x ∷ cs) = (
     λ e. subst (λ (b : Bool). f x ≤ greatest f (if b then x ∷ calls_from cs pid else calls_from cs pid)) (sym (eq-eqb x.caller pid e)) (omega arith),
-    all_to (λ (c : Choice). c.caller ≡ pid → f c ≤ greatest f (calls_from cs pid)) (λ c. c.caller ≡ pid → f c ≤ greatest f (calls_from (x ∷ cs) pid)) cs (λ c h e. greatest_if (nat_eq x.caller pid) x (calls_from cs pid) (f c) (h e)) (caller_least pid cs),
+    all_to (λ (c : Choice). c.caller ≡ pid → f c ≤ greatest f (calls_from cs pid))
+        (λ c. c.caller ≡ pid → f c ≤ greatest f (calls_from (x ∷ cs) pid)) cs
+        (λ c h e. greatest_if (nat_eq x.caller pid) x (calls_from cs pid) (f c) (h e)) (caller_least pid cs),
   )
 
 module _ (cs : List Choice) where
-  same_greatest : (n m : ℕ) → ((q : ℕ) → chain cs n q < n → chain cs n q ≡ chain cs (suc n) q) → (xs : List Choice) → greatest (λ c. suc (chain cs n c.callee)) xs < suc n → greatest (λ c. suc (chain cs n c.callee)) xs ≡ greatest (λ c. suc (chain cs (suc n) c.callee)) xs
+  same_greatest : (n m : ℕ) → ((q : ℕ) → chain cs n q < n → chain cs n q ≡ chain cs (suc n) q) → (xs : List Choice)
+      → greatest (λ c. suc (chain cs n c.callee)) xs < suc n → greatest (λ c. suc (chain cs n c.callee)) xs ≡ greatest (λ c. suc (chain cs (suc n) c.callee)) xs
   same_greatest n m h [] lt = refl
   same_greatest n m h (x ∷ xs) lt =
       let less : max (suc (chain cs n x.callee)) (greatest (λ (c : Choice). suc (chain cs n c.callee)) xs) < suc n = lt in
@@ -51,7 +54,8 @@ module _ (cs : List Choice) where
   caller_all : (pid : ℕ) (xs : List Choice) → AllByRecursion (λ c. c.caller ≡ pid → next_level c ≤ greatest next_level (calls_from xs pid)) xs
   caller_all pid xs = caller_least next_level pid xs
 
-  own_least : (ys : List Choice) → ((pid : ℕ) → AllByRecursion (λ c. c.caller ≡ pid → next_level c ≤ level cs pid) ys) → AllByRecursion (λ c. next_level c ≤ level cs c.caller) ys
+  own_least : (ys : List Choice) → ((pid : ℕ) → AllByRecursion (λ c. c.caller ≡ pid → next_level c ≤ level cs pid) ys)
+      → AllByRecursion (λ c. next_level c ≤ level cs c.caller) ys
   own_least [] h = tt
   own_least (y ∷ ys) h = ((h y.caller).0 refl, own_least ys (λ pid. (h pid).1))
 
@@ -61,8 +65,11 @@ module _ (cs : List Choice) where
   -- levels fall along each accepted call
   pub levels_fall : is_acyclic cs ≡ true → AllByRecursion (λ c. level cs c.callee < level cs c.caller) cs
   levels_fall e =
-      all_to (λ (c : Choice). (nat_le (level cs c.caller) (length cs) ≡ true) × (next_level c ≤ level cs c.caller)) (λ c. level cs c.callee < level cs c.caller) cs (λ c h. one_falls c (leb-true (level cs c.caller) (length cs) h.0) h.1)
-      (all_both (λ (c : Choice). nat_le (level cs c.caller) (length cs) ≡ true) (λ c. next_level c ≤ level cs c.caller) cs (all_true (λ c. nat_le (level cs c.caller) (length cs)) cs e) (own_least cs (λ pid. caller_all pid cs)))
+      all_to (λ (c : Choice). (nat_le (level cs c.caller) (length cs) ≡ true) × (next_level c ≤ level cs c.caller))
+      (λ c. level cs c.callee < level cs c.caller) cs
+      (λ c h. one_falls c (leb-true (level cs c.caller) (length cs) h.0) h.1)
+      (all_both (λ (c : Choice). nat_le (level cs c.caller) (length cs) ≡ true) (λ c. next_level c ≤ level cs c.caller) cs
+      (all_true (λ c. nat_le (level cs c.caller) (length cs)) cs e) (own_least cs (λ pid. caller_all pid cs)))
 
   -- where some numbers fall along each call, the calls are free of cycles
   module _ (rank : ℕ → ℕ) where
@@ -80,12 +87,17 @@ module _ (cs : List Choice) where
 
     one_more : (a n m : ℕ) (j k : Bool) → nat_le a n ≡ j → nat_le a m ≡ k → n ≤ m → one_if j ≤ one_if k
     one_more a n m true true ej ek le = omega arith
-    one_more a n m true false ej ek le = let h = leb-true a n ej in let g : nat_le a m ≡ true = le-leb a m (omega arith) in let bad : true ≡ false = sym g ∙ ek in absurd cc
+    one_more a n m true false ej ek le =
+        let h = leb-true a n ej in
+        let g : nat_le a m ≡ true = le-leb a m (omega arith) in
+        let bad : true ≡ false = sym g ∙ ek in absurd cc
     one_more a n m false k ej ek le = omega arith
 
     up_more : (n m : ℕ) (xs : List Choice) → n ≤ m → up_to n xs ≤ up_to m xs
     up_more n m [] le = omega arith
-    up_more n m (x ∷ xs) le = let one = one_more (rank x.caller) n m (nat_le (rank x.caller) n) (nat_le (rank x.caller) m) refl refl le in let rest = up_more n m xs le in omega arith
+    up_more n m (x ∷ xs) le =
+        let one = one_more (rank x.caller) n m (nat_le (rank x.caller) n) (nat_le (rank x.caller) m) refl refl le in
+        let rest = up_more n m xs le in omega arith
 
     -- a call from a caller of rank m counts for m, and not below
     up_less : (n m : ℕ) (xs : List Choice) → n < m → AllByRecursion (λ c. rank c.caller ≡ m → up_to n xs < up_to m xs) xs
@@ -96,7 +108,9 @@ module _ (cs : List Choice) where
           let rest = up_more n m xs (omega arith) in
           omega arith),
       all_to (λ (c : Choice). rank c.caller ≡ m → up_to n xs < up_to m xs) (λ c. rank c.caller ≡ m → up_to n (x ∷ xs) < up_to m (x ∷ xs)) xs
-          (λ c h e. (let one = one_more (rank x.caller) n m (nat_le (rank x.caller) n) (nat_le (rank x.caller) m) refl refl (omega arith) in let rest = h e in omega arith)) (up_less n m xs lt),
+          (λ c h e.
+          (let one = one_more (rank x.caller) n m (nat_le (rank x.caller) n) (nat_le (rank x.caller) m) refl refl (omega arith) in
+          let rest = h e in omega arith)) (up_less n m xs lt),
     )
       where
         not_le : (a b : ℕ) → b < a → nat_le a b ≡ false
@@ -106,7 +120,8 @@ module _ (cs : List Choice) where
             by true e = let le = leb-true a b e in absurd (omega arith)
             by false e = refl
 
-    own_up : (ys : List Choice) → ((n m : ℕ) → n < m → AllByRecursion (λ c. rank c.caller ≡ m → up_to n cs < up_to m cs) ys) → AllByRecursion (λ c. (n : ℕ) → n < rank c.caller → up_to n cs < up_to (rank c.caller) cs) ys
+    own_up : (ys : List Choice) → ((n m : ℕ) → n < m → AllByRecursion (λ c. rank c.caller ≡ m → up_to n cs < up_to m cs) ys)
+        → AllByRecursion (λ c. (n : ℕ) → n < rank c.caller → up_to n cs < up_to (rank c.caller) cs) ys
     own_up [] h = tt
     own_up (y ∷ ys) h = (λ n lt. (h n (rank y.caller) lt).0 refl, own_up ys (λ n m lt. (h n m lt).1))
 
@@ -126,10 +141,16 @@ module _ (cs : List Choice) where
         let low = chain_low falls n c.callee in
         let up = h.1.1 (rank c.callee) h.1.0 in
         omega arith))
-        (all_both (λ (c : Choice). nat_eq c.caller q ≡ true) Falls (calls_from cs q) (filter_pass (λ c. nat_eq c.caller q) cs) (filter_all (λ c. nat_eq c.caller q) Falls cs falls)))
+        (all_both (λ (c : Choice). nat_eq c.caller q ≡ true) Falls (calls_from cs q) (filter_pass (λ c. nat_eq c.caller q) cs)
+        (filter_all (λ c. nat_eq c.caller q) Falls cs falls)))
 
     pub ranked_acyclic : AllByRecursion (λ c. rank c.callee < rank c.caller) cs → is_acyclic cs ≡ true
     ranked_acyclic h =
-        let falls = all_both (λ (c : Choice). rank c.callee < rank c.caller) (λ c. (n : ℕ) → n < rank c.caller → up_to n cs < up_to (rank c.caller) cs) cs h (own_up cs (λ n m lt. up_less n m cs lt)) in
-        true_all (λ c. nat_le (level cs c.caller) (length cs)) cs (all_to (λ (c : Choice). rank c.callee < rank c.caller) (λ c. nat_le (level cs c.caller) (length cs) ≡ true) cs
-        (λ c lt. (let low = chain_low falls (suc (length cs)) c.caller in let few = up_few (rank c.caller) cs in le-leb (level cs c.caller) (length cs) (omega arith))) h)
+        let falls = all_both (λ (c : Choice). rank c.callee < rank c.caller)
+        (λ c. (n : ℕ) → n < rank c.caller → up_to n cs < up_to (rank c.caller) cs) cs h (own_up cs (λ n m lt. up_less n m cs lt)) in
+        true_all (λ c. nat_le (level cs c.caller) (length cs)) cs
+        (all_to (λ (c : Choice). rank c.callee < rank c.caller) (λ c. nat_le (level cs c.caller) (length cs) ≡ true) cs
+        (λ c lt.
+        (let low = chain_low falls (suc (length cs)) c.caller in
+        let few = up_few (rank c.caller) cs in
+        le-leb (level cs c.caller) (length cs) (omega arith))) h)

@@ -79,7 +79,8 @@ module _ (p : IlProgram) (valid : IsProgram p) (cs : List Choice) where
 
     -- a routine with these bodies at its accepted sites
     record Deeper (q : RoutineParts) : Type 0 where
-      numbers : AreOf (with_calls ss g (own (summary q)) (inline_sites cs q.pid (known_sites q))) (inlined q (bodies f rs (inline_sites cs q.pid (known_sites q))))
+      numbers : AreOf (with_calls ss g (own (summary q)) (inline_sites cs q.pid (known_sites q)))
+          (inlined q (bodies f rs (inline_sites cs q.pid (known_sites q))))
       returns : value_returns (inlined q (bodies f rs (inline_sites cs q.pid (known_sites q)))).blocks ≡ value_returns q.blocks
 
     deeper : (x : ℕ) (q : RoutineParts) → routine_at rs x ≡ Some q → Deeper q
@@ -132,4 +133,5 @@ module _ (p : IlProgram) (valid : IsProgram p) (cs : List Choice) where
 
   pub inlined_cost : cost (inlined_routines rs cs) ≡ cost_after ss cs
   inlined_cost =
-      costs_are rs (each_found (λ (r : RoutineParts). r.pid) (λ r. AreOf (inlined_numbers ss cs (summary r)) (inlined_routine rs cs r)) rs valid.routines numbers_are)
+      costs_are rs
+      (each_found (λ (r : RoutineParts). r.pid) (λ r. AreOf (inlined_numbers ss cs (summary r)) (inlined_routine rs cs r)) rs valid.routines numbers_are)

@@ -126,7 +126,8 @@ module _ (names : List ShapeRow) (p : IlProgram) (valid : IsProgram p) (table : 
 
   make_cost : (g : Group) (gs : List Group) → Rest gs → (b : Spent) (s : Summary) (st : State) → summary_at ss g.callee ≡ Some s
       → cost st.program.routines ≤ b.cost → b.cost + (clone_numbers s g.fixed).size ^ 2 ≤ limit → Stand st
-      → cost (add_clones names ((with_new g b (clone_numbers s g.fixed)).taken ++ taken ss table limit (more_spent b (clone_numbers s g.fixed)) gs) st).program.routines
+      → cost (add_clones names
+      ((with_new g b (clone_numbers s g.fixed)).taken ++ taken ss table limit (more_spent b (clone_numbers s g.fixed)) gs) st).program.routines
       ≤ limit
   make_cost g gs rest b s st e le fits stand =
       let f = routine_of g.callee s (routine_at p.routines g.callee) refl (sym (summary_found p.routines g.callee) ∙ e) in
