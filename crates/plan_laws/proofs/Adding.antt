@@ -16,10 +16,10 @@ use Rattle.il_laws.specs.Keeping.{Stands, MayFollow}
 use Rattle.il_laws.specs.Table.{Row}
 use Rattle.il_laws.proofs.CloneRows.{row_stays}
 use Rattle.il_laws.proofs.ClonesGrown.{is_grown, clones_follow}
-use Rattle.il_laws.proofs.Found.{found_all}
+use Rattle.il_core.proofs.Found.{found_all}
 use Rattle.il_laws.proofs.Grown.{all_push, all_to, all_of, found_other}
 use Rattle.il_laws.proofs.Kept.{all_both}
-use Rattle.il_laws.proofs.Programs.{shape_is}
+use Rattle.il_core.proofs.Programs.{shape_is}
 use Rattle.il_laws.proofs.Serving.{follow_then}
 use Rattle.il_laws.proofs.Shaped.{in_row}
 use Rattle.il_laws.proofs.Tests.{and_left, and_right}

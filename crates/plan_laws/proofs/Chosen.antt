@@ -7,7 +7,7 @@ use Rattle.il_core.specs.Program.{routine_at, main_pid}
 use Rattle.il_core.specs.Routine.{RoutineParts}
 use Rattle.il_core.specs.Valid.{IsProgram}
 use Rattle.il_laws.specs.Known.{KnownSite, known_sites}
-use Rattle.il_laws.proofs.Found.{found_number}
+use Rattle.il_core.proofs.Found.{found_number}
 use Rattle.il_laws.proofs.Serving.{each_found}
 use Rattle.il_laws.proofs.SpliceBlocks.{all_append}
 use Rattle.il_laws.proofs.Tests.{and_left, and_right}

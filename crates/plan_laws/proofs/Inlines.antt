@@ -12,7 +12,7 @@ use Rattle.il_laws.specs.Known.{known_sites}
 use Rattle.il_laws.specs.Serving.{Serves}
 use Rattle.il_laws.specs.Sites.{callees}
 use Rattle.il_laws.specs.SpliceLaws.{ServesSite}
-use Rattle.il_laws.proofs.Programs.{routine_valid}
+use Rattle.il_core.proofs.Programs.{routine_valid}
 use Rattle.il_laws.proofs.Serving.{serves_itself, each_follows}
 use Rattle.il_laws.proofs.SpliceServes.{inlined_serves}
 use Rattle.plan_laws.specs.Numbers.{Choice, InlineSite, inline_sites}

@@ -18,7 +18,7 @@ use Rattle.il_laws.specs.Inline.{SiteBody, inlined}
 use Rattle.il_laws.specs.Known.{known_sites}
 use Rattle.il_laws.specs.Retarget.{SiteMove, callee_at, retarget_instr, retarget_instrs, retarget_blocks}
 use Rattle.il_laws.specs.Splice.{Site, site_at, moved, moved_block, passed, handed, copied, raised, entering, resuming, copies, spliced, splice}
-use Rattle.il_laws.proofs.Found.{found_all}
+use Rattle.il_core.proofs.Found.{found_all}
 use Rattle.il_laws.proofs.SpliceBlocks.{call_of, site_block, all_front, all_rest, all_append}
 use Rattle.il_laws.proofs.SpliceSites.{site_is}
 use Rattle.plan_laws.specs.Numbers.{Choice, InlineSite, inline_sites}

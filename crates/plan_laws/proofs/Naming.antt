@@ -8,7 +8,7 @@ use Rattle.std.proofs.lemmas.Option.{none-some, same_Some}
 use Rattle.il_core.specs.declared.shape.ShapeRow.{ShapeRow}
 use Rattle.il_core.specs.Program.{found, name_of_row}
 use Rattle.il_core.specs.Valid.{HasEachNameOnce}
-use Rattle.il_laws.proofs.Found.{found_here, found_there, found_all}
+use Rattle.il_core.proofs.Found.{found_here, found_there, found_all}
 use Rattle.plan_laws.specs.Plan.{Made, root_of, clones_of, clone_name}
 
 abbrev pub NoDollar : List ℕ → Type 0

@@ -15,11 +15,11 @@ use Rattle.il_laws.specs.Reach.{is_live, stays, pruned}
 use Rattle.il_laws.specs.Simplify.{simplify}
 use Rattle.il_laws.specs.Table.{Row, IsRight, HasCalleesShape}
 use Rattle.il_laws.proofs.CloneRows.{row_stays}
-use Rattle.il_laws.proofs.Found.{found_here, found_there}
+use Rattle.il_core.proofs.Found.{found_here, found_there}
 use Rattle.il_laws.proofs.Grown.{all_to}
 use Rattle.il_laws.proofs.Kept.{all_both, filter_all, filter_pass, Up, rising_up}
 use Rattle.il_laws.proofs.KeptPrograms.{pruned_follows, routine_stays, shape_was}
-use Rattle.il_laws.proofs.Programs.{callee_of, routine_valid, shape_is}
+use Rattle.il_core.proofs.Programs.{callee_of, routine_valid, shape_is}
 use Rattle.il_laws.proofs.ReachClosed.{live_calls, main_live}
 use Rattle.il_laws.proofs.Serving.{each_follows, run_kept}
 use Rattle.il_laws.proofs.Simplified.{simplify_serves}

@@ -12,7 +12,8 @@ use Rattle.il_laws.specs.Known.{KnownSite, known_sites}
 use Rattle.il_laws.specs.Retarget.{SiteMove, retarget, Covers, IsByRow}
 use Rattle.il_laws.specs.Serving.{Serves}
 use Rattle.il_laws.specs.Table.{Row, IsRight, HasCalleesShape}
-use Rattle.il_laws.proofs.Programs.{callee_of, routine_valid, valid_calls, shape_is}
+use Rattle.il_core.proofs.Programs.{callee_of, routine_valid, shape_is}
+use Rattle.il_laws.proofs.Programs.{valid_calls}
 use Rattle.il_laws.proofs.Retargeted.{all_stand, retarget_serves}
 use Rattle.il_laws.proofs.Serving.{serves_itself, each_follows}
 use Rattle.il_laws.proofs.Tests.{and_left, and_right}

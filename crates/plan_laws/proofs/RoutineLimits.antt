@@ -18,10 +18,10 @@ use Rattle.il_laws.specs.Retarget.{SiteMove, retarget}
 use Rattle.il_laws.specs.Simplify.{simplify}
 use Rattle.il_laws.specs.Table.{Row}
 use Rattle.il_laws.proofs.CloneValid.{clone_size}
-use Rattle.il_laws.proofs.Found.{found_all}
+use Rattle.il_core.proofs.Found.{found_all}
 use Rattle.il_laws.proofs.Grown.{all_push, all_to, found_left}
 use Rattle.il_laws.proofs.Kept.{filter_all}
-use Rattle.il_laws.proofs.Programs.{routine_valid}
+use Rattle.il_core.proofs.Programs.{routine_valid}
 use Rattle.il_laws.proofs.Tests.{and_left, and_right}
 use Rattle.il_laws.proofs.Within.{simplify_within}
 use Rattle.plan_laws.specs.Orders.{greatest}

@@ -13,7 +13,7 @@ use Rattle.il_laws.specs.Known.{known_sites}
 use Rattle.il_laws.specs.Serving.{Serves}
 use Rattle.il_laws.specs.Splice.{value_returns}
 use Rattle.il_laws.specs.SpliceLaws.{added_size}
-use Rattle.il_laws.proofs.Programs.{routine_valid}
+use Rattle.il_core.proofs.Programs.{routine_valid}
 use Rattle.il_laws.proofs.Serving.{each_found}
 use Rattle.il_laws.proofs.SpliceSizes.{inlined_sizes}
 use Rattle.plan_laws.specs.Summary.{Summary, summary, summaries, summary_at}

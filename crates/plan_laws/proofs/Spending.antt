@@ -25,7 +25,7 @@ use Rattle.il_laws.specs.Simplify.{simplify}
 use Rattle.il_laws.specs.Table.{Row}
 use Rattle.il_laws.proofs.CloneValid.{clone_size}
 use Rattle.il_laws.proofs.Grown.{found_left}
-use Rattle.il_laws.proofs.Programs.{routine_valid}
+use Rattle.il_core.proofs.Programs.{routine_valid}
 use Rattle.il_laws.proofs.Charges.{simplify_no_larger}
 use Rattle.il_laws.proofs.Tests.{and_left, and_right}
 use Rattle.plan_laws.specs.Summary.{Summary, summary, summaries, summary_at, cost_of, CallSite, numbered}

@@ -7,7 +7,7 @@ use Rattle.il_core.specs.Routine.{RoutineParts}
 use Rattle.il_laws.specs.Inline.{SiteBody, inlined}
 use Rattle.il_laws.specs.Known.{known_sites}
 use Rattle.il_laws.specs.Splice.{Site, site_at, spliced, splice}
-use Rattle.il_laws.proofs.Found.{found_all, found_number}
+use Rattle.il_core.proofs.Found.{found_all, found_number}
 use Rattle.il_laws.proofs.Serving.{found_map}
 use Rattle.plan_laws.specs.Orders.{greatest}
 use Rattle.plan_laws.specs.Numbers.{Choice, InlineSite, inline_sites}
