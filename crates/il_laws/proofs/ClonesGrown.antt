@@ -32,7 +32,7 @@ is_next p valid c fits =
       ok = clone_valid p.shapes fits.callee c.pid c.fixed (routine_valid p valid c.callee fits.callee fits.is) fits.fixed;
     }
 
-is_grown : (p : IlProgram) (c : NewClone) (fits : CloneFits p c)
+pub is_grown : (p : IlProgram) (c : NewClone) (fits : CloneFits p c)
     → with_clone p c ≡ grown p (make_clone fits.callee c.pid c.fixed) (shape_row_of c fits.callee)
 is_grown p c fits = ap (λ (o : Option RoutineParts). with_copy p c o) fits.is
 

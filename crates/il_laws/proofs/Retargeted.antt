@@ -324,7 +324,7 @@ callees_stand p fs [] h = tt
 callees_stand p fs (i ∷ is) h =
     all_append (λ s. Stands p s.callee) (site_of fs i) (known_in (after i fs) is) (callee_stands p fs i h.0) (callees_stand p (after i fs) is h.1)
 
-all_stand : (p : IlProgram) (r : RoutineParts) (b : ℕ) (xs : List Block) → BlocksCallIn (Stands p) xs
+pub all_stand : (p : IlProgram) (r : RoutineParts) (b : ℕ) (xs : List Block) → BlocksCallIn (Stands p) xs
     → AllByRecursion (λ s. Stands p s.callee) (known_from r b xs)
 all_stand p r b [] h = tt
 all_stand p r b (x ∷ xs) h =

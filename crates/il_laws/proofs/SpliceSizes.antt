@@ -13,10 +13,10 @@ use Rattle.il_core.specs.Program.{routine_at}
 use Rattle.il_core.specs.Routine.{RoutineParts}
 use Rattle.il_core.specs.Size.{block_size, blocks_size, size}
 use Rattle.il_core.specs.Valid.{IsProgram, IsValid, IsValidEnd, AreValidBlocks, is_wanted}
-use Rattle.il_core.specs.Operands.{Names, renamed}
+use Rattle.il_core.specs.Operands.{Names, renamed, retargeted}
 use Rattle.il_laws.specs.Inline.{SiteBody, IsFalling}
 use Rattle.il_laws.specs.Sites.{callees}
-use Rattle.il_laws.specs.Splice.{Site, site_at, moved_block, passed, handed, copied, spliced, splice, value_return, value_returns}
+use Rattle.il_laws.specs.Splice.{Site, site_at, moved, moved_block, passed, handed, copied_end, copied, spliced, splice, value_return, value_returns}
 use Rattle.il_laws.specs.SpliceLaws.{ServesSite, added_size, InlinedSizes}
 use Rattle.il_core.proofs.Programs.{routine_valid}
 use Rattle.il_laws.proofs.Serving.{serves_itself}
@@ -96,7 +96,64 @@ spliced_size rows r q s fits =
     let o4 : size r ≡ blocks_size (at.blocks_with s) = ap blocks_size fits.blocks in
     omega arith
 
+-- the callee's returns become jumps, and the caller's stay
+returns_append : (xs ys : List Block) → value_returns (xs ++ ys) ≡ value_returns xs + value_returns ys
+returns_append [] ys = omega arith
+returns_append (x ∷ xs) ys = let rest = returns_append xs ys in omega arith
+
+return_moved : (to : ℕ → ℕ) (e : End) → value_return (retargeted to e) ≡ value_return e
+return_moved to (ends.Jump t) = refl
+return_moved to (ends.Branch r t u) = refl
+return_moved to (ends.Loop t) = refl
+return_moved to (ends.Return r) = refl
+return_moved to (ends.Exit r) = refl
+
+returns_moved : (b n : ℕ) (xs : List Block) → value_returns (map (moved_block b n) xs) ≡ value_returns xs
+returns_moved b n [] = refl
+returns_moved b n (x ∷ xs) = ap₂ {A = ℕ} {B = ℕ} {C = ℕ} (λ k l. k + l) (return_moved (moved b n) x.end) (returns_moved b n xs)
+
+return_copied : (m : Names) (first rest : ℕ) (e : End) → value_return (copied_end m first rest e) ≡ 0
+return_copied m first rest (ends.Jump t) = refl
+return_copied m first rest (ends.Branch r t u) = refl
+return_copied m first rest (ends.Loop t) = refl
+return_copied m first rest (ends.Return r) = refl
+return_copied m first rest (ends.Exit r) = refl
+
+returns_copied : (m : Names) (dest : Option ℕ) (first rest : ℕ) (xs : List Block) → value_returns (map (copied m dest first rest) xs) ≡ 0
+returns_copied m dest first rest [] = refl
+returns_copied m dest first rest (x ∷ xs) =
+    ap₂ {A = ℕ} {B = ℕ} {C = ℕ} (λ k l. k + l) (return_copied m first rest x.end) (returns_copied m dest first rest xs)
+
+spliced_returns : (rows : List ShapeRow) (r q : RoutineParts) (s : Site) → at.Fits rows r q s
+    → value_returns (spliced r q (Some s)).blocks ≡ value_returns r.blocks
+spliced_returns rows r q s fits =
+    let b = at.at rows r q s fits in
+    let n = at.many rows r q s fits in
+    let m = at.names rows r q s fits in
+    let first = at.first_block rows r q s fits in
+    let rest = at.rest_block rows r q s fits in
+    let copies = map (copied m s.cut.dest (suc b) (at.rest rows r q s fits)) q.blocks in
+    let early = map (moved_block b n) s.earlier in
+    let late = map (moved_block b n) s.later in
+    let n1 = returns_append early (first ∷ (copies ++ rest ∷ late)) in
+    let n2 = returns_append copies (rest ∷ late) in
+    let n3 = returns_moved b n s.earlier in
+    let n4 = returns_moved b n s.later in
+    let n5 = returns_copied m s.cut.dest (suc b) (at.rest rows r q s fits) q.blocks in
+    let n6 = return_moved (moved b n) s.end in
+    let old = returns_append s.earlier (at.site_block s ∷ s.later) in
+    let was : value_returns r.blocks ≡ value_returns (at.blocks_with s) = ap value_returns fits.blocks in
+    omega arith
+
 module _ (p : IlProgram) (valid : IsProgram p) where
+  serving_returns : (r q : RoutineParts) (k : ℕ) → IsValid p.shapes r → (a : ServesSite p r (record { site = k; body = q }))
+      → value_returns (splice r k q).blocks ≡ value_returns r.blocks
+  serving_returns r q k ok a =
+      let c = calls_site r.blocks k a.callee a.calls in
+      let there = ap (λ (x : ℕ). routine_at p.routines x) c.callee_is ∙ a.is in
+      let fits = body_fits p valid r a.origin q c.site ok (site_is k r.blocks c.site c.is).blocks there a.serves in
+      ap (λ (o : Option Site). value_returns (spliced r q o).blocks) c.is ∙ spliced_returns p.shapes r q c.site fits
+
   serving_size : (r q0 q : RoutineParts) (k callee : ℕ) → IsValid p.shapes r → slice_get (callees r.blocks) k ≡ Some callee
       → (a : ServesSite p r (record { site = k; body = q })) → size (splice r k q) ≡ size r + added_size q
   serving_size r q0 q k callee ok at a =
@@ -120,7 +177,8 @@ module _ (p : IlProgram) (valid : IsProgram p) where
 
   pub inlined_sizes : (r : RoutineParts) (bodies : List SiteBody) → IsValid p.shapes r → IsFalling bodies
       → AllByRecursion (ServesSite p r) bodies → InlinedSizes r bodies
-  inlined_sizes r [] ok falls h = record { size = omega arith; regs = omega arith; arrays = omega arith; elements = omega arith }
+  inlined_sizes r [] ok falls h =
+      record { size = omega arith; regs = omega arith; arrays = omega arith; elements = omega arith; returns = refl }
   inlined_sizes r (a ∷ bodies) ok falls h =
       let first = h.0 in
       let q = a.body in
@@ -137,4 +195,10 @@ module _ (p : IlProgram) (valid : IsProgram p) where
       let t3 = sum_by-cons (λ (b : SiteBody). length b.body.arrays) a bodies in
       let t4 = sum_by-cons (λ (b : SiteBody). sum b.body.arrays) a bodies in
       let u1 = rest.size in let u2 = rest.regs in let u3 = rest.arrays in let u4 = rest.elements in
-      record { size = omega arith; regs = omega arith; arrays = omega arith; elements = omega arith }
+      record {
+        size = omega arith;
+        regs = omega arith;
+        arrays = omega arith;
+        elements = omega arith;
+        returns = rest.returns ∙ serving_returns r q a.site ok first;
+      }

@@ -64,12 +64,13 @@ SpliceSize = (p : IlProgram) → IsProgram p → (x k callee : ℕ) (r q : Routi
     → slice_get (callees r.blocks) k ≡ Some callee → routine_at p.routines callee ≡ Some q
     → size (splice r k q) ≡ size r + added_size q
 
--- the size, the registers, the arrays and their elements of a routine with bodies spliced
+-- the size, the registers, the arrays and their elements of a routine with bodies spliced, and its returns with a value
 pub record InlinedSizes (r : RoutineParts) (bodies : List SiteBody) : Type 0 where
   pub size : size (inlined r bodies) ≡ size r + sum_by (λ a. added_size a.body) bodies
   pub regs : (inlined r bodies).regs ≡ r.regs + sum_by (λ a. a.body.regs) bodies
   pub arrays : length (inlined r bodies).arrays ≡ length r.arrays + sum_by (λ a. length a.body.arrays) bodies
   pub elements : sum (inlined r bodies).arrays ≡ sum r.arrays + sum_by (λ a. sum a.body.arrays) bodies
+  pub returns : value_returns (inlined r bodies).blocks ≡ value_returns r.blocks
 
 abbrev pub InlineSize : Type 0
 InlineSize = (p : IlProgram) → IsProgram p → (r : RoutineParts) (bodies : List SiteBody) → IsValid p.shapes r → IsFalling bodies

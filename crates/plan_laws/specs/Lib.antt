@@ -1,0 +1,11 @@
+pub mod Choosing
+pub mod Dead
+pub mod Groups
+pub mod Inlining
+pub mod Levels
+pub mod Numbers
+pub mod Orders
+pub mod Plan
+pub mod ChoiceLaws
+pub mod PlanLaws
+pub mod Summary

@@ -1,0 +1,11 @@
+//! The plan: which programs the optimiser makes one after the other, as a fold over programs that knows
+//! no memory limit, worker or disk. The public functions have no bodies, and their contracts are its laws.
+#![tactic(auto)]
+
+mod choosing;
+mod costs;
+mod meaning;
+
+pub use choosing::{choice_fits, levels_fall, waves_agree};
+pub use costs::{budget_kept, limits_kept, numbers_known, passes_within};
+pub use meaning::{final_keeps, plan_keeps, table_keeps};
