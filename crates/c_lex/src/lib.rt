@@ -13,4 +13,3 @@ mod step;
 
 pub use fault::{LexFault, LexKind};
 pub use scanner::scan;
-

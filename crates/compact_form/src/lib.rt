@@ -12,4 +12,3 @@ mod row;
 mod writing;
 
 pub use body::RoutineBody;
-

@@ -14,10 +14,10 @@ ghost use Rattle.il_text.specs.declared.line.NamedRoutine.{NamedRoutine};
 use crate::line::{NamedObject, NamedRoutine};
 use crate::lists::{arrays, init};
 use crate::operands::count;
-use text_lines::{Words, after, next, next_name};
 use hlo_num::{Name, Seq};
 use il_core::{Object, Routine, limits};
 use std::alloc::{AllocError, Global};
+use text_lines::{Words, after, next, next_name};
 
 /// The line of an object up to its words at the start.
 #[derive(Clone, Copy)]

@@ -22,4 +22,3 @@ pub use fault::{IlFault, IlKind};
 pub use head::write_head;
 pub use read::read_il;
 pub use routine::write_routine;
-

@@ -9,10 +9,10 @@ ghost use Rattle.il_text.specs.declared.statement.Statement.{Statement};
 
 use crate::header::{object, routine};
 use crate::statement::{Statement, read_statement};
-use text_lines::{Words, after, is_done, next, numbered, words_of};
 use hlo_num::Name;
 use il_core::{Object, Routine};
 use std::alloc::{AllocError, Global};
+use text_lines::{Words, after, is_done, next, numbered, words_of};
 
 /// An object with its name.
 #[derive(Drop)]

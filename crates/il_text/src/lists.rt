@@ -9,10 +9,10 @@ ghost use Rattle.il_core.specs.Text.{reg, word, arrays_parts, init_parts};
 ghost use Rattle.text_lines.specs.Words.{words_left};
 
 use crate::operands::{constant, count, register};
-use text_lines::{Words, after, is_done};
 use hlo_num::{Seq, Word};
 use il_core::limits;
 use std::alloc::{AllocError, Global};
+use text_lines::{Words, after, is_done};
 
 /// The arguments of a call.
 pub(crate) fn arguments(alloc: Global, words: Words<'_>) -> Result<Option<Seq<u32>>, AllocError>

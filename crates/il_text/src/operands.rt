@@ -8,9 +8,9 @@ ghost use Rattle.il_core.specs.Limits.{IsPid};
 ghost use Rattle.il_core.specs.Text.{reg, array, block, global, word, type_name};
 ghost use Rattle.text_lines.specs.Words.{words_left, IsRead};
 
-use text_lines::{Words, is_done, next, number, numbered, signed};
 use hlo_num::{Ty, Word};
 use il_core::limits;
+use text_lines::{Words, is_done, next, number, numbered, signed};
 
 /// A register, and the words behind it.
 pub(crate) fn register(words: Words<'_>) -> Option<(u32, Words<'_>)>

@@ -9,11 +9,11 @@ ghost use Rattle.il_text.specs.declared.line.Line.{Line};
 ghost use Rattle.il_text.specs.declared.front.Front.{Front};
 
 use crate::fault::{IlFault, IlKind};
-use text_lines::next_line;
 use crate::front::{Front, Place, step};
 use crate::line::read_line;
 use hlo_num::Seq;
 use std::alloc::Global;
+use text_lines::next_line;
 
 /// What the lines of a text tell, up to its last line, or the first line that no text goes on with. It takes
 /// time and memory in proportion to the bytes.

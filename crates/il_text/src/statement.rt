@@ -17,9 +17,9 @@ use crate::operands::{
     array_register, array_registers, count, global_register, global_registers, narrow_register,
     only_block, only_constant, only_global, only_register, ranges, register_blocks, registers,
 };
-use text_lines::{Words, after, is_done, next, numbered};
 use il_core::{End, Instr, limits};
 use std::alloc::{AllocError, Global};
+use text_lines::{Words, after, is_done, next, numbered};
 
 /// What stands on a line inside a block.
 #[derive(Drop)]

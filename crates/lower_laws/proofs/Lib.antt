@@ -9,6 +9,7 @@ mod Layouts
 mod Meeting
 mod Passing
 mod Pieces
+mod ProgramsMeet
 mod Runs
 mod Samples
 mod Sizes

@@ -1,9 +1,11 @@
+pub mod Bound
 pub mod Code
+pub mod Expressions
+pub mod Functions
+pub mod Laws
 pub mod Layouts
 pub mod Operations
-pub mod Expressions
-pub mod Switches
+pub mod ProgramLaws
+pub mod Programs
 pub mod Statements
-pub mod Functions
-pub mod Bound
-pub mod Laws
+pub mod Switches

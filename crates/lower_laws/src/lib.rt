@@ -3,7 +3,9 @@
 #![tactic(auto)]
 
 mod laws;
+mod programs;
 
 pub use laws::{
     lowered_calls_mean_the_same, lowered_runs_mean_the_same, lowered_sizes_are_numbers,
 };
+pub use programs::lowered_means_the_same;

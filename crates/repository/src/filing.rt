@@ -6,7 +6,6 @@ ghost use Rattle.repository.specs.Record.{HasBytes, WritesRange};
 ghost use Rattle.repository.specs.Filing.{record_of, IsCountedFault, FetchFault, FetchesRecord, GivesFiled, ReadFault, ReadsRecord};
 
 use crate::places::{read_range, write_range};
-
 use outside::{Disk, Failed};
 use sha2::{Digest, Sha256};
 use std::alloc::{AllocError, Global};
