@@ -1,6 +1,5 @@
 -- Coming to a place of a routine: what the code from there on does, and where a later basic block is found.
 use Rattle.std.proofs.Common.{◌≡◌, ℕ, suc, ◌<◌, ◌≤◌, Bool, true, false, refl, sym, ap, ◌∙◌, arith}
-use Rattle.std.specs.Prelude.{if◌then◌else◌}
 use Rattle.il_core.specs.declared.instr.Instr.{Instr}
 use Rattle.il_core.specs.declared.instr.End.{End}
 use Rattle.il_core.specs.World.{World, choose}

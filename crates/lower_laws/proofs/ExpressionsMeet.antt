@@ -1,22 +1,20 @@
 -- The code of an expression does what the expression does, where calls do.
-use Rattle.std.proofs.Common.{◌≡◌, ℕ, suc, ◌<◌, ◌≤◌, List, [], ◌∷◌, Bool, Option, Some, None, refl, sym, ap, ◌∙◌, arith}
-use Rattle.std.specs.Prelude.{IsTrue, is_some}
+use Rattle.std.proofs.Common.{◌≡◌, ℕ, ◌≤◌, List, [], ◌∷◌, Some, None, refl, ap, ◌∙◌, arith}
 use Rattle.hlo_num.specs.declared.word.Op.TheVariants as op
 use Rattle.hlo_num.specs.Words.{promote}
 use Rattle.il_core.specs.declared.instr.Instr.TheVariants as instr
 use Rattle.il_core.specs.declared.instr.End.TheVariants as ends
-use Rattle.il_core.specs.World.{World, Outcome, Exit as exits, ended, first_byte, after_get, low_byte, after_put, each, with_return}
+use Rattle.il_core.specs.World.{World, Exit as exits, ended, first_byte, after_get, low_byte, after_put, each, with_return}
 use Rattle.il_core.specs.Meaning.{Frame, with_reg, received}
 use Rattle.il_laws.proofs.Alike.{Falls}
-use Rattle.c_typed.specs.Expressions as c_meaning
-use Rattle.c_typed.specs.Expressions.{Spot, Whole, Part, expr, place, arguments, update}
+use Rattle.c_typed.specs.Expressions.{Whole, Part, expr, place, arguments, update}
 use Rattle.c_typed.specs.Operators.{step_op}
 use Rattle.c_typed.specs.Results.{Locals, Value}
 use Rattle.c_typed.specs.Trees as tree
 use Rattle.c_typed.specs.Trees.{Place, Expr, Arguments}
 use Rattle.lower_laws.specs.Bound.{HasValue, IsExpr, IsPlace, AreArguments}
 use Rattle.lower_laws.specs.Code.{Code, put, close, Numbers, past_reg, past_instr, past_end, past_new, past_label, label, word}
-use Rattle.lower_laws.specs.Expressions.{is_open, logical_end, skipped, result_past, result_register, past, place_past, arguments_past, result, results, spot_at, code, place_code, arguments_code}
+use Rattle.lower_laws.specs.Expressions.{is_open, logical_end, skipped, result_register, past, place_past, arguments_past, result, results, spot_at, code, place_code, arguments_code}
 use Rattle.lower_laws.specs.Operations.{store, conv_past, conv_result, conv_code, operation, unary_code, update_past, update_code}
 use Rattle.lower_laws.proofs.Coming.{Setting, goes, Leads, leads_here, leads_by, branch_is, jump_is, goes_label, passes_then, passes_put, passes_close, passes_label}
 use Rattle.lower_laws.proofs.Frames.{IsLaidOut, IsRoom, room_part, spot_in, spot_kept, spot_later}
@@ -24,7 +22,7 @@ use Rattle.lower_laws.proofs.Growing.{grow, grow_place, grow_arguments, grow_new
 use Rattle.lower_laws.proofs.Meeting.{Ready, Meets, meets_by, meets_weak, meets_then, lands_put, lands_here}
 use Rattle.lower_laws.proofs.Passing.{same_block, past_either, label_is_past, passes_expr}
 use Rattle.lower_laws.proofs.Pieces.{spot_ok, spot_below, as_value, if_value, meets_on, call_meets, lands_arm, lands_truth, logical_choice, meets_update, old_meets, step_meets}
-use Rattle.lower_laws.proofs.Steps.{Has, meets_choose, meets_load, meets_store, meets_operation, meets_conv, meets_unary}
+use Rattle.lower_laws.proofs.Steps.{meets_choose, meets_load, meets_store, meets_operation, meets_conv, meets_unary}
 
 -- a call of a routine is the call of its function, after which no turn has come back
 pub record CallsMeet {S : Type 0} (c : Setting S) : Type 0 where

@@ -1,6 +1,6 @@
 -- The code of a statement meets its execution: it comes to the code that follows, breaks or continues what is round it, or
 -- leaves the call.
-use Rattle.std.proofs.Common.{◌≡◌, ℕ, zero, suc, ◌≤◌, Bool, true, false, refl, sym, ap, subst, ◌∙◌, arith}
+use Rattle.std.proofs.Common.{◌≡◌, ℕ, zero, suc, ◌≤◌, Bool, false, refl, sym, subst, ◌∙◌, arith}
 use Rattle.il_core.specs.declared.instr.End.{End}
 use Rattle.il_core.specs.declared.instr.End.TheVariants as ends
 use Rattle.il_core.specs.World.{World, Outcome, choose}

@@ -1,5 +1,5 @@
 -- Numbers only grow, and the register of a result is new.
-use Rattle.std.proofs.Common.{◌≡◌, ℕ, suc, ◌<◌, ◌≤◌, Bool, true, false, Option, Some, None, sym, subst, arith}
+use Rattle.std.proofs.Common.{◌≡◌, ℕ, ◌<◌, ◌≤◌, Bool, true, false, Option, Some, None, sym, subst, arith}
 use Rattle.std.specs.Prelude.{if◌then◌else◌, IsTrue, is_some}
 use Rattle.hlo_num.specs.declared.word.Ty.{Ty}
 use Rattle.hlo_num.specs.Words.{is_narrow, promote}
@@ -8,7 +8,7 @@ use Rattle.c_tree.specs.declared.expression.UnaryOp.TheVariants.{Plus, Minus, Co
 use Rattle.c_typed.specs.Trees as tree
 use Rattle.c_typed.specs.Trees.{Place, Expr, Arguments}
 use Rattle.c_typed.specs.Types.{type_of}
-use Rattle.lower_laws.specs.Bound.{Scope, HasValue, IsExpr, IsPlace}
+use Rattle.lower_laws.specs.Bound.{Scope, HasValue, IsExpr}
 use Rattle.lower_laws.specs.Code.{Numbers, past_reg, past_instr, past_end, past_site, past_new, past_label}
 use Rattle.lower_laws.specs.Expressions.{arm_open, result_past, arm_past, past, place_past, arguments_past, result}
 use Rattle.lower_laws.specs.Operations.{conv_past, conv_result, unary_past, unary_result, update_past, update_result}

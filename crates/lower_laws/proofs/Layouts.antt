@@ -304,3 +304,8 @@ array_below [] a b e lt = absurd cc
 array_below (x ∷ xs) a zero e lt = absurd (omega arith)
 array_below (x ∷ xs) zero (suc b) e lt = some_before x.length (array_lengths (take b xs)) e
 array_below (x ∷ xs) (suc a) (suc b) e lt = more_before x.length (array_lengths (take a xs)) (array_lengths (take b xs)) (array_below xs a b e (omega arith))
+
+pub array_within : (xs : List Local) (a : ℕ) → is_some_array (slice_get xs a) ≡ true → arrays_before xs a < length (array_lengths xs)
+array_within [] a e = absurd cc
+array_within (x ∷ xs) zero e = some_before x.length (array_lengths xs) e
+array_within (x ∷ xs) (suc a) e = more_before x.length (array_lengths (take a xs)) (array_lengths xs) (array_within xs a e)

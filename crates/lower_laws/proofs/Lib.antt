@@ -13,11 +13,15 @@ mod ProgramsMeet
 mod Runs
 mod Samples
 mod Sizes
+mod Stands
 mod StandsAt
 mod StatementsGrow
 mod StatementsMeet
 mod StatementsPass
 mod Steps
 mod SwitchesMeet
+mod ValidExpressions
+mod ValidRoutines
+mod ValidStatements
 mod Whole
 mod Widening

@@ -1,5 +1,5 @@
 -- The code of an expression meets its evaluation: it comes to the code that follows with the value, or ends as it does.
-use Rattle.std.proofs.Common.{◌≡◌, ℕ, ◌≤◌, Bool, refl, sym, ap, subst, ◌∙◌, arith}
+use Rattle.std.proofs.Common.{◌≡◌, ℕ, ◌≤◌, refl, sym, subst, ◌∙◌, arith}
 use Rattle.std.specs.Prelude.{Result, Ok, Err}
 use Rattle.hlo_num.specs.declared.word.Trap.{Trap}
 use Rattle.il_core.specs.World.{World, Outcome}

@@ -1,6 +1,6 @@
 -- The pieces of the greater templates: what a call gave, the ends of arms and of logical operators, the old word of a
 -- place, and its update.
-use Rattle.std.proofs.Common.{◌≡◌, ℕ, suc, ◌<◌, ◌≤◌, List, [], ◌∷◌, Bool, refl, sym, ap, ◌∙◌, arith}
+use Rattle.std.proofs.Common.{◌≡◌, ℕ, suc, ◌<◌, ◌≤◌, refl, sym, ap, ◌∙◌, arith}
 use Rattle.std.specs.Prelude.{◌==◌, not, IsTrue, is_some, Option, Some, None}
 use Rattle.hlo_num.specs.declared.word.Ty.{Ty}
 use Rattle.hlo_num.specs.declared.word.Op.TheVariants as op
@@ -22,14 +22,14 @@ use Rattle.c_typed.specs.Results.{Locals, Value, Is, Cut, and_then, called, word
 use Rattle.c_typed.specs.Trees as tree
 use Rattle.c_typed.specs.Trees.{Place, Expr}
 use Rattle.lower_laws.specs.Bound.{Scope, HasValue, IsPlace}
-use Rattle.lower_laws.specs.Code.{Code, put, close, Numbers, past_reg, past_new, word}
+use Rattle.lower_laws.specs.Code.{Code, put, close, Numbers, past_new, word}
 use Rattle.lower_laws.specs.Expressions.{logical_end, skipped, result_past, result_register, place_past, result, spot_at}
 use Rattle.lower_laws.specs.Layouts.{Layout}
 use Rattle.lower_laws.specs.Operations.{load, store, conv_past, conv_result, conv_code, update_past, update_result, update_code}
 use Rattle.lower_laws.proofs.Coming.{Setting, goes, Leads, branch_is, jump_is}
 use Rattle.lower_laws.proofs.Frames.{IsLaidOut, IsFree, IsRoom, room_part, IsSpot, spot_in, SpotBelow, spot_kept, spot_later, keeps_none, keeps_put, agrees_free, put_here}
-use Rattle.lower_laws.proofs.Growing.{grow_place, grow_new, grow_conv, grow_update, IsNew, new_here, new_conv, new_update, result_new, is_void}
-use Rattle.lower_laws.proofs.Meeting.{Ready, Meets, meets_by, meets_weak, meets_then, meets_is, lands_put, lands_here}
+use Rattle.lower_laws.proofs.Growing.{grow_place, grow_new, grow_conv, grow_update, new_here, new_conv, new_update, result_new, is_void}
+use Rattle.lower_laws.proofs.Meeting.{Ready, Meets, meets_by, meets_weak, meets_then, meets_is, lands_put}
 use Rattle.lower_laws.proofs.Steps.{Has, meets_choose, meets_load, meets_store, meets_operation, meets_conv}
 
 -- the place of an expression is one of the scope, and its index stands in a new register

@@ -5,25 +5,20 @@ use Rattle.std.specs.Cmp.Lexicographic.{pointwise, same_text, other_text}
 use Rattle.std.specs.Map.{keys_of}
 use Rattle.std.proofs.lemmas.Bool.{cases_lt, false≢true}
 use Rattle.std.proofs.lemmas.List.Quantifiers.{position-Some}
-use Rattle.std.proofs.lemmas.Option.{none-some}
-use Rattle.il_core.specs.declared.program.IlProgram.{IlProgram}
 use Rattle.il_core.specs.declared.shape.ShapeRow.{ShapeRow}
-use Rattle.il_core.specs.Meaning.{il_run}
 use Rattle.il_core.specs.Program.{routine_at, main_pid, pid_named}
 use Rattle.il_core.specs.Routine.{RoutineParts}
 use Rattle.il_core.proofs.Found.{found_number}
-use Rattle.sym_tables.specs.Listing.{objects}
-use Rattle.sym_tables.specs.Table.{Table, same_name, pid_of}
-use Rattle.c_typed.specs.declared.function.TypedModule.{TypedModule}
-use Rattle.c_typed.specs.Linked.{words_at_start, run_main, run_functions, program_of}
+use Rattle.sym_tables.specs.Table.{Table, same_name}
+use Rattle.c_typed.specs.Linked.{words_at_start, run_main, program_of}
 use Rattle.c_typed.specs.Meaning.{function_at}
 use Rattle.c_typed.specs.Trees.{Function}
 use Rattle.c_typed.specs.Views.{functions_of}
 use Rattle.c_typed.proofs.Objects.{words_meet, start_meet}
 use Rattle.lower_laws.specs.Functions.{lowered}
 use Rattle.lower_laws.specs.Laws.{routine_of, IsLowered}
-use Rattle.lower_laws.specs.ProgramLaws.{AreLinked, LoweredMeansTheSame}
-use Rattle.lower_laws.specs.Programs.{routines_at, routines_from, rows_at, rows_from, lowered_program}
+use Rattle.lower_laws.specs.ProgramLaws.{LoweredMeansTheSame}
+use Rattle.lower_laws.specs.Programs.{routines_at, routines_from, rows_from, lowered_program}
 use Rattle.lower_laws.proofs.Whole.{runs_mean_the_same}
 
 -- two names are compared either way

@@ -1,12 +1,11 @@
 -- The routines of a lowered program do what its functions do: by induction on the turns that are left.
-use Rattle.std.proofs.Common.{◌≡◌, ℕ, zero, suc, ◌<◌, ◌≤◌, List, Bool, true, false, Option, Some, None, length, refl, sym, ap, ◌∙◌, subst, arith}
+use Rattle.std.proofs.Common.{◌≡◌, ℕ, zero, suc, ◌≤◌, List, Bool, true, false, Option, Some, None, length, refl, sym, ap, ◌∙◌, subst, arith}
 use Rattle.std.specs.Prelude.{nat_lt, if◌then◌else◌, ⊤}
 use Rattle.std.proofs.lemmas.Bool.{le-ltb}
 use Rattle.il_core.specs.declared.instr.End.{End}
 use Rattle.il_core.specs.declared.program.IlProgram.{IlProgram}
 use Rattle.il_core.specs.Meaning as il
 use Rattle.il_core.specs.Meaning.{Frame, Next, no_log, exec, frame_of, lengths, act_noting}
-use Rattle.il_core.specs.Program.{routine_at}
 use Rattle.il_core.specs.Routine.{RoutineParts}
 use Rattle.il_core.specs.World.{World, OutOfTurns, Outcome, Returns, Stuck, ended, turn, turn_at, from_list}
 use Rattle.il_laws.specs.Runs.{run, turned, called}

@@ -2,7 +2,7 @@
 use Rattle.std.proofs.Common.{◌≡◌, ℕ, Bool, true, false, List, [], ◌∷◌, Option, Some, None, refl}
 use Rattle.std.specs.Prelude.{codes}
 use Rattle.hlo_num.specs.declared.word.Ty.{Ty}
-use Rattle.hlo_num.specs.declared.word.Ty.TheVariants.{Char, UChar, Short, Int, UInt, Long, ULong}
+use Rattle.hlo_num.specs.declared.word.Ty.TheVariants.{Char, Short, Int, UInt, Long, ULong}
 use Rattle.hlo_num.specs.declared.word.Op.TheVariants as op
 use Rattle.il_core.specs.declared.instr.Block.{Block}
 use Rattle.il_core.specs.declared.instr.Instr.{Instr}
@@ -20,7 +20,7 @@ use Rattle.c_typed.specs.declared.function.Local.{Local}
 use Rattle.c_typed.specs.declared.function.Parameter.{Parameter}
 use Rattle.c_typed.specs.declared.statement.Label.{Label}
 use Rattle.c_typed.specs.declared.statement.Label.TheVariants.{Case, Default}
-use Rattle.c_typed.specs.Trees.{Function, Scalar, Element as element, Constant, Read, Convert, Discard, Unary, Binary, Logical, Conditional, Comma}
+use Rattle.c_typed.specs.Trees.{Function, Scalar, Element as element, Constant, Read, Convert, Unary, Binary, Logical, Conditional, Comma}
 use Rattle.c_typed.specs.Trees.{Assign, Compound, Prefix, Postfix, Call, GetChar, PutChar, Exit, None as none, Argument, Stmt, Empty, Sequence}
 use Rattle.c_typed.specs.Trees.{Declaration, Expression, If, IfElse, Switch, While, Do, For, Break, Continue, Return, End as no_more, Section}
 use Rattle.lower_laws.specs.Code.{word}

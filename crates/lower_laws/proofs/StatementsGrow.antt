@@ -1,10 +1,10 @@
 -- Numbers grow over statements, and what is past a statement is past its start.
-use Rattle.std.proofs.Common.{◌≡◌, ℕ, suc, ◌<◌, ◌≤◌, List, [], ◌∷◌, Bool, true, false, Option, Some, None, arith}
+use Rattle.std.proofs.Common.{ℕ, ◌<◌, ◌≤◌, List, [], ◌∷◌, Bool, true, false, Option, Some, None, arith}
 use Rattle.c_typed.specs.declared.statement.Label.{Label}
 use Rattle.c_typed.specs.declared.statement.Label.TheVariants as labels
 use Rattle.c_typed.specs.Trees as tree
 use Rattle.c_typed.specs.Trees.{Expr, Stmt, Sections}
-use Rattle.lower_laws.specs.Code.{Numbers, past_end, past_label}
+use Rattle.lower_laws.specs.Code.{Numbers, past_label}
 use Rattle.lower_laws.specs.Layouts.{Outline}
 use Rattle.lower_laws.specs.Statements.{optional_past, optional_open, condition_past, no_value_past, local_past, open_behind, sections_open, stmt_past, sections_past}
 use Rattle.lower_laws.specs.Switches.{labels_past, labels_open, test_past, label_tests_past, tests_past}

@@ -1,30 +1,29 @@
 -- The code of a statement does what the statement does, where calls and ways back do.
-use Rattle.std.proofs.Common.{◌≡◌, ℕ, suc, ◌<◌, ◌≤◌, List, [], ◌∷◌, Bool, true, false, Option, Some, None, refl, sym, ap, ◌∙◌, arith}
+use Rattle.std.proofs.Common.{◌≡◌, ℕ, ◌<◌, ◌≤◌, List, Bool, true, false, Option, Some, None, refl, sym, ap, ◌∙◌, arith}
 use Rattle.std.specs.Prelude.{if◌then◌else◌}
 use Rattle.std.specs.List.{list_any}
-use Rattle.il_core.specs.declared.instr.Instr.TheVariants as instr
 use Rattle.il_core.specs.declared.instr.End.{End}
 use Rattle.il_core.specs.declared.instr.End.TheVariants as ends
-use Rattle.il_core.specs.World.{World, Outcome, Returns, choose}
+use Rattle.il_core.specs.World.{World, Outcome, Returns}
 use Rattle.il_core.specs.Meaning.{Frame, Next}
 use Rattle.c_typed.specs.declared.expression.Variable.TheVariants as variables
 use Rattle.c_typed.specs.declared.statement.Label.{Label}
 use Rattle.c_typed.specs.Expressions as c_meaning
 use Rattle.c_typed.specs.Expressions.{Whole, expr}
-use Rattle.c_typed.specs.Results.{Locals, Value, Flow, Normal, and_do, and_next, and_again}
+use Rattle.c_typed.specs.Results.{Locals, Flow, Normal, and_next, and_again}
 use Rattle.c_typed.specs.Statements as meaning
 use Rattle.c_typed.specs.Statements.{is_default}
 use Rattle.c_typed.specs.Trees as tree
 use Rattle.c_typed.specs.Trees.{Expr, Stmt, Sections}
-use Rattle.lower_laws.specs.Code.{Code, put, close, Numbers, past_instr, past_end, past_label, label, word}
+use Rattle.lower_laws.specs.Code.{Code, put, close, Numbers, past_instr, past_end, past_label, label}
 use Rattle.lower_laws.specs.Expressions.{is_open, past, result, code}
 use Rattle.lower_laws.specs.Operations.{store}
 use Rattle.lower_laws.specs.Statements.{optional_past, optional_open, optional_code, condition_past, condition_code, no_value_code, local_past, open_behind, sections_open, stmt_past, sections_past, section_block, tests_code, stmt_code, sections_code}
-use Rattle.lower_laws.specs.Switches.{labels_past, labels_open, labels_code, label_block, tests_past}
+use Rattle.lower_laws.specs.Switches.{labels_past, labels_open, labels_code, tests_past}
 use Rattle.lower_laws.proofs.Coming.{Setting, goes, from, Passes, Leads, leads_here, leads_by, branch_is, jump_is, goes_label, passes_then, passes_close, passes_label}
 use Rattle.lower_laws.proofs.ExpressionsMeet.{CallsMeet, expr_meets}
-use Rattle.lower_laws.proofs.Fine.{FineExpr, FineValue, FineOptional, FineCondition, Fine, FineSections, LeadsPast, leads_past_by}
-use Rattle.lower_laws.proofs.Flowing.{EndsSame, ends_same, ends_so, Flows, flows_by, comes_here, breaks_here, continues_here, flows_do, flows_next, flows_on, flows_choose, flows_again, At, LoopsMeet}
+use Rattle.lower_laws.proofs.Fine.{FineValue, FineOptional, FineCondition, Fine, FineSections, LeadsPast, leads_past_by}
+use Rattle.lower_laws.proofs.Flowing.{ends_same, Flows, flows_by, comes_here, breaks_here, continues_here, flows_do, flows_next, flows_on, flows_choose, flows_again, At, LoopsMeet}
 use Rattle.lower_laws.proofs.Frames.{IsLaidOut, put_here}
 use Rattle.lower_laws.proofs.Growing.{grow, grow_label, result_new}
 use Rattle.lower_laws.proofs.Meeting.{Ready, Meets, meets_weak}

@@ -1,5 +1,5 @@
 -- A basic block that comes later is found behind the code of a statement.
-use Rattle.std.proofs.Common.{◌≡◌, ℕ, suc, ◌<◌, ◌≤◌, List, [], ◌∷◌, Bool, true, false, Option, Some, None, refl, sym, ap, arith}
+use Rattle.std.proofs.Common.{◌≡◌, ℕ, ◌<◌, ◌≤◌, List, [], ◌∷◌, Bool, true, false, Option, Some, None, refl, sym, ap, arith}
 use Rattle.il_core.specs.declared.instr.End.{End}
 use Rattle.c_typed.specs.declared.statement.Label.{Label}
 use Rattle.c_typed.specs.declared.statement.Label.TheVariants as labels
@@ -7,7 +7,7 @@ use Rattle.c_typed.specs.Trees as tree
 use Rattle.c_typed.specs.Trees.{Expr, Stmt, Sections}
 use Rattle.lower_laws.specs.Code.{Code, Numbers, past_end, past_new, past_label, label}
 use Rattle.lower_laws.specs.Expressions.{is_open, past}
-use Rattle.lower_laws.specs.Layouts.{Outline, Layout}
+use Rattle.lower_laws.specs.Layouts.{Layout}
 use Rattle.lower_laws.specs.Statements.{optional_past, optional_open, optional_code, condition_past, condition_code, no_value_past, no_value_code, local_past, open_behind, sections_open, stmt_past, sections_past, tests_code, stmt_code, sections_code}
 use Rattle.lower_laws.specs.Switches.{labels_past, labels_open, labels_code, test_past, label_tests_past, tests_past, label_tests}
 use Rattle.lower_laws.proofs.Coming.{Setting, from, Passes, passes_none, passes_then, passes_put, passes_close, passes_label}

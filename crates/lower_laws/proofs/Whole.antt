@@ -1,23 +1,24 @@
 -- The layout of every function whose names are bound is sound, and so a lowered program does what its functions do.
-use Rattle.std.proofs.Common.{◌≡◌, ℕ, suc, ◌+◌, ◌<◌, ◌≤◌, List, [], Option, Some, None, Bool, true, false, length, refl, ap, ◌∙◌, ⊎_elim, arith}
+use Rattle.std.proofs.Common.{◌≡◌, ℕ, ◌+◌, ◌<◌, ◌≤◌, List, [], Bool, true, false, length, refl, ap, ◌∙◌, ⊎_elim, arith}
 use Rattle.std.proofs.lemmas.Bool.{cases_order}
 use mathlib.Core.Path.{fun_ext}
 use Rattle.il_core.specs.declared.program.IlProgram.{IlProgram}
 use Rattle.il_core.specs.Meaning.{act, run_of}
 use Rattle.il_core.specs.Program.{initial_word, main_pid}
 use Rattle.il_core.specs.World.{World}
-use Rattle.c_typed.specs.Meaning.{Program, function_at, call_function}
+use Rattle.c_typed.specs.Meaning.{Program, call_function}
 use Rattle.c_typed.specs.Trees as tree
 use Rattle.c_typed.specs.Trees.{Stmt, Sections, Function}
 use Rattle.lower_laws.specs.Bound.{IsBound, locals_behind, sections_behind}
 use Rattle.lower_laws.specs.Code.{Numbers, past_end}
 use Rattle.lower_laws.specs.Expressions.{past}
-use Rattle.lower_laws.specs.Functions.{declarators, section_declarators, outline_of, layout_of, first_numbers}
+use Rattle.lower_laws.specs.Functions.{declarators, section_declarators, outline_of, layout_of, first_numbers, body_past}
 use Rattle.lower_laws.specs.Laws.{IsLowered, AreBound, CallsMeanTheSame, RunsMeanTheSame, world_at_start}
 use Rattle.lower_laws.specs.Layouts.{Outline}
 use Rattle.lower_laws.specs.Statements.{open_behind, stmt_past}
 use Rattle.lower_laws.specs.Switches.{labels_past, labels_open}
 use Rattle.lower_laws.proofs.Declarators.{AllFrom, least_at, declarators_from}
+use Rattle.lower_laws.proofs.Fine.{Fine}
 use Rattle.lower_laws.proofs.Frames.{IsScalarLocal}
 use Rattle.lower_laws.proofs.Layouts.{fine_stmt, array_below, length_of_array}
 use Rattle.lower_laws.proofs.Runs.{whole, IsSound, same_calls}
@@ -51,28 +52,45 @@ mutual
       let inside = labels_open ls opened in
       all_declared o rest (open_behind a inside) (stmt_past o a inside n1) (locals_behind a known) k ∙ declared o a inside n1 known _
 
+-- what the layout of a function whose names are bound gives
+pub record IsPlaced (count : ℕ → ℕ) (f : Function) : Type 0 where
+  pub fine : Fine (layout_of count f) (whole f) f.body true (first_numbers f)
+  pub behind : (x : ℕ) → IsScalarLocal (whole f) x → length f.params ≤ (layout_of count f).register x
+  pub before : (x : ℕ) → IsScalarLocal (whole f) x → (layout_of count f).register x < (body_past f).reg
+  pub rising : (x z : ℕ) → x < z → IsScalarLocal (whole f) x → IsScalarLocal (whole f) z
+      → (layout_of count f).register x < (layout_of count f).register z
+
+pub placed : (count : ℕ → ℕ) (f : Function) → IsBound f → IsPlaced count f
+placed count f bound =
+    let y = layout_of count f in
+    let o = outline_of f in
+    let s = whole f in
+    let n = first_numbers f in
+    let ds = declarators o f.body true n [] in
+    let few : locals_behind f.body 0 ≤ length ds = omega (arith, declared o f.body true n 0 []) in
+    let from : AllFrom (length f.params) ds = declarators_from o f.body true n [] tt in
+    let h = fine_stmt y s ds (λ x. refl) (λ x. refl) few f.body true n 0 [] bound (omega arith)
+    (record {
+      placed = record { behind = omega arith; before = λ x lt a. absurd (omega arith); rising = λ x z xz lt ax az. absurd (omega arith) };
+      here = refl;
+    }) tt in
+    let at = h.1.placed in
+    record {
+      fine = h.0;
+      behind = λ x ok. least_at ds 0 x (length f.params) from (omega arith) (omega (arith, ok.0, few));
+      before = λ x ok. at.before x ok.0 ok.1;
+      rising = λ x z lt ox oz. at.rising x z lt oz.0 ox.1 oz.1;
+    }
+
 module _ (p : Program) (q : IlProgram) (entry : ℕ → ℕ) (count : ℕ → ℕ → ℕ) (is : IsLowered p q entry count) where
   sound : (f : Function) → IsBound f → IsSound p q entry count f
   sound f bound =
-      let y = layout_of (count f.pid) f in
-      let o = outline_of f in
-      let s = whole f in
-      let n = first_numbers f in
-      let ds = declarators o f.body true n [] in
-      let few : locals_behind f.body 0 ≤ length ds = omega (arith, declared o f.body true n 0 []) in
-      let from : AllFrom (length f.params) ds = declarators_from o f.body true n [] tt in
-      let h = fine_stmt y s ds (λ x. refl) (λ x. refl) few f.body true n 0 [] bound (omega arith)
-      (record {
-        placed = record { behind = omega arith; before = λ x lt a. absurd (omega arith); rising = λ x z xz lt ax az. absurd (omega arith) };
-        here = refl;
-      }) tt in
-      let rising = h.1.placed.rising in
-      let below = λ (x z : ℕ) (ox : IsScalarLocal s x) (oz : IsScalarLocal s z) (lt : x < z). rising x z lt oz.0 ox.1 oz.1 in
+      let h = placed (count f.pid) f bound in
       record {
         laid = record {
-          behind = λ x ok. least_at ds 0 x (length f.params) from (omega arith) (omega (arith, ok.0, few));
+          behind = h.behind;
           apart = λ x z ox oz e. ⊎_elim (λ same. same)
-              (λ b. ⊎_elim (λ lt. absurd (omega (arith, e, below x z ox oz lt))) (λ lt. absurd (omega (arith, e, below z x oz ox lt))) b)
+              (λ b. ⊎_elim (λ lt. absurd (omega (arith, e, h.rising x z lt ox oz))) (λ lt. absurd (omega (arith, e, h.rising z x lt oz ox))) b)
               (cases_order x z);
           arrays = λ a b oa ob e. ⊎_elim (λ same. same)
               (λ c. ⊎_elim (λ lt. absurd (omega (arith, e, array_below f.locals a b oa.1 lt)))
@@ -81,7 +99,7 @@ module _ (p : Program) (q : IlProgram) (entry : ℕ → ℕ) (count : ℕ → �
           lengths = λ a ok. length_of_array f.locals a ok.1;
           objects = λ g. is.words g;
         };
-        fine = h.0;
+        fine = h.fine;
       }
 
   same : AreBound p → (pid : ℕ) (args : List ℕ) (w : World (Unit {0})) → act q pid args w ≡ call_function p pid args w

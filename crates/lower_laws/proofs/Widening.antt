@@ -1,5 +1,5 @@
 -- What is bound where some locals are declared is bound where more are.
-use Rattle.std.proofs.Common.{◌≡◌, ℕ, suc, ◌<◌, ◌≤◌, Option, Some, None, arith}
+use Rattle.std.proofs.Common.{ℕ, ◌≤◌, Option, Some, None, arith}
 use Rattle.c_typed.specs.declared.expression.Variable.TheVariants as variables
 use Rattle.c_typed.specs.declared.expression.Array.TheVariants as arrays
 use Rattle.c_typed.specs.Trees as tree

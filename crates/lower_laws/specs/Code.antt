@@ -1,5 +1,5 @@
 -- What templates are made of: the code that follows a place within a routine, and the numbers that stand at a place.
-use Rattle.std.specs.Prelude.{ℕ, suc, List, [], ◌∷◌, Bool, true, false, if◌then◌else◌}
+use Rattle.std.specs.Prelude.{ℕ, suc, List, [], ◌∷◌, Bool, true, false}
 use Rattle.hlo_num.specs.declared.word.Word.{Word}
 use Rattle.il_core.specs.declared.instr.Block.{Block}
 use Rattle.il_core.specs.declared.instr.Instr.{Instr}

@@ -1,5 +1,5 @@
 -- What is fixed for a function while its code is made.
-use Rattle.std.specs.Prelude.{ℕ, suc, Bool}
+use Rattle.std.specs.Prelude.{ℕ, Bool}
 
 -- what decides the numbers: which locals are arrays, and whether the function gives a value
 pub record Outline : Type 0 where

@@ -1,6 +1,7 @@
 pub mod Bound
 pub mod Code
 pub mod Expressions
+pub mod Fits
 pub mod Functions
 pub mod Laws
 pub mod Layouts
@@ -9,3 +10,4 @@ pub mod ProgramLaws
 pub mod Programs
 pub mod Statements
 pub mod Switches
+pub mod ValidityLaws

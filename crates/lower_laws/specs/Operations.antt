@@ -1,5 +1,5 @@
 -- Loads, stores, conversions and operators: the templates of one or few instructions.
-use Rattle.std.specs.Prelude.{ℕ, suc, Bool, Option, Some, None, if◌then◌else◌}
+use Rattle.std.specs.Prelude.{ℕ, suc, if◌then◌else◌}
 use Rattle.hlo_num.specs.declared.word.Ty.{Ty}
 use Rattle.hlo_num.specs.declared.word.Op.TheVariants as op
 use Rattle.hlo_num.specs.Words.{is_narrow}

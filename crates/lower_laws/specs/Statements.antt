@@ -1,6 +1,6 @@
 -- The templates of statements: the numbers behind a statement, whether a block is open behind it, and its code in front of
 -- the code that follows. `opened` says whether a block is open before it.
-use Rattle.std.specs.Prelude.{ℕ, suc, List, [], ◌∷◌, Bool, true, false, Option, Some, None}
+use Rattle.std.specs.Prelude.{ℕ, Bool, true, false, Option, Some, None}
 use Rattle.il_core.specs.declared.instr.Instr.TheVariants as instr
 use Rattle.il_core.specs.declared.instr.End.{End}
 use Rattle.il_core.specs.declared.instr.End.TheVariants as ends

@@ -4,8 +4,10 @@
 
 mod laws;
 mod programs;
+mod validity;
 
 pub use laws::{
     lowered_calls_mean_the_same, lowered_runs_mean_the_same, lowered_sizes_are_numbers,
 };
 pub use programs::lowered_means_the_same;
+pub use validity::lowered_is_valid;
