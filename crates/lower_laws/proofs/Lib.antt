@@ -1,3 +1,4 @@
+mod ByPid
 mod Coming
 mod Declarators
 mod ExpressionsMeet
@@ -10,6 +11,7 @@ mod Meeting
 mod Passing
 mod Pieces
 mod ProgramsMeet
+mod ProgramsValid
 mod Runs
 mod Samples
 mod Sizes

@@ -16,10 +16,14 @@ abbrev pub routines_at : (ℕ → ℕ) → (ℕ → ℕ → ℕ) → Option Func
 routines_at entry count None = []
 routines_at entry count (Some f) = lowered (entry f.pid) (count f.pid) f ∷ []
 
--- the routines of the names that have functions, with PIDs from this one on
+-- what each name of a table gives, with PIDs from this one on
+abbrev pub by_pid : {X : Type 0} → (ℕ → List ℕ → Symbol → List X) → ℕ → Table → List X
+by_pid pick pid [] = []
+by_pid pick pid (e ∷ es) = pick pid e.0 e.1 ++ by_pid pick (suc pid) es
+
+-- the routines of the names that have functions
 abbrev pub routines_from : (ℕ → ℕ) → (ℕ → ℕ → ℕ) → List Function → ℕ → Table → List RoutineParts
-routines_from entry count fs pid [] = []
-routines_from entry count fs pid (e ∷ es) = routines_at entry count (function_at fs pid) ++ routines_from entry count fs (suc pid) es
+routines_from entry count fs pid syms = by_pid (λ n name s. routines_at entry count (function_at fs n)) pid syms
 
 -- the row of a name that stands for a function or an object of the program
 abbrev pub rows_at : List Function → ℕ → List ℕ → Symbol → List ShapeRow
@@ -28,8 +32,7 @@ rows_at fs pid name s =
     else []
 
 abbrev pub rows_from : List Function → ℕ → Table → List ShapeRow
-rows_from fs pid [] = []
-rows_from fs pid (e ∷ es) = rows_at fs pid e.0 e.1 ++ rows_from fs (suc pid) es
+rows_from fs pid syms = by_pid (rows_at fs) pid syms
 
 -- the program of functions and the table of their names, with the profile's counts of entries and sites by PID
 abbrev pub lowered_program : (ℕ → ℕ) → (ℕ → ℕ → ℕ) → List Function → Table → IlProgram

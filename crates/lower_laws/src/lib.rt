@@ -9,5 +9,5 @@ mod validity;
 pub use laws::{
     lowered_calls_mean_the_same, lowered_runs_mean_the_same, lowered_sizes_are_numbers,
 };
-pub use programs::lowered_means_the_same;
+pub use programs::{lowered_is_program, lowered_means_the_same};
 pub use validity::lowered_is_valid;
