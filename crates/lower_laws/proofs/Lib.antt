@@ -10,8 +10,8 @@ mod Layouts
 mod Meeting
 mod Passing
 mod Pieces
-mod ProgramsMeet
-mod ProgramsValid
+pub mod ProgramsMeet
+pub mod ProgramsValid
 mod Runs
 mod Samples
 mod Sizes

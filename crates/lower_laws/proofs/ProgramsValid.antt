@@ -1,12 +1,11 @@
 -- The lowered program of linked modules that fit it is valid.
-use Rattle.std.proofs.Common.{◌≡◌, ◌≢◌, ℕ, zero, suc, ◌+◌, ◌<◌, ◌≤◌, nat_eq, Bool, true, false, if◌then◌else◌, List, [], ◌∷◌, ◌++◌, length, Option, Some, None, get_or, refl, sym, ap, subst, ◌∙◌, arith, eq-eqb}
+use Rattle.std.proofs.Common.{◌≡◌, ◌≢◌, ℕ, zero, suc, ◌+◌, ◌<◌, ◌≤◌, Bool, true, false, if◌then◌else◌, List, [], ◌∷◌, ◌++◌, length, Option, Some, None, get_or, refl, sym, ap, subst, ◌∙◌, arith}
 use Rattle.std.specs.Prelude.{◌&&◌, ◌||◌, not, nat_lt, IsTrue, codes, is_some}
 use Rattle.std.specs.Cmp.Lexicographic.{same_text}
 use Rattle.std.specs.List.{AllByRecursion, Contains}
 use Rattle.std.specs.Map.{keys_of}
 use Rattle.std.proofs.lemmas.Bool.{false≢true, ltb-true}
 use Rattle.std.proofs.lemmas.List.Quantifiers.{position-Some}
-use Rattle.il_core.specs.declared.shape.Shape.{Shape}
 use Rattle.il_core.specs.declared.shape.Shape.TheVariants as shape
 use Rattle.il_core.specs.declared.shape.ShapeRow.{ShapeRow}
 use Rattle.il_core.specs.Limits.{max_pids, IsPid}
@@ -20,14 +19,13 @@ use Rattle.sym_tables.specs.declared.entity.Entity.{Entity}
 use Rattle.sym_tables.specs.declared.entity.Entity.TheVariants.{Function as FunctionOf, Scalar, Array}
 use Rattle.sym_tables.specs.declared.symbol.Symbol.{Symbol}
 use Rattle.sym_tables.specs.Entities.{words}
-use Rattle.sym_tables.specs.Listing.{shape_of, is_object, objects_at, objects, trimmed}
+use Rattle.sym_tables.specs.Listing.{shape_of, is_object, objects_at, trimmed}
 use Rattle.sym_tables.specs.Symbols.{is_declared}
 use Rattle.sym_tables.specs.Table.{Table, same_name}
 use Rattle.c_typed.specs.Meaning.{function_at}
 use Rattle.c_typed.specs.Trees.{Function}
 use Rattle.lower_laws.specs.Bound.{IsBound}
 use Rattle.lower_laws.specs.Fits.{FitsFunction}
-use Rattle.lower_laws.specs.Functions.{lowered}
 use Rattle.lower_laws.specs.ProgramLaws.{IsEntityOf, AreEntities, HasNamesOnce, function_count, LoweredIsProgram}
 use Rattle.lower_laws.specs.Programs.{routines_at, by_pid, rows_at, rows_from}
 use Rattle.lower_laws.proofs.ByPid.{objects_by, all_append, contains_later, AtMostOne, skips, rising}
@@ -97,8 +95,14 @@ module _ (entry : ℕ → ℕ) (count : ℕ → ℕ → ℕ) (fs : List Function
       let row : ShapeRow = record { pid = n; name = e.0; shape = shape_of e.1.entity } in
       let x : ObjectParts = record { pid = n; words = words e.1.entity; init = trimmed e.1.init } in
       let here = each_one (function_at fs n) e.1 (is_object e.1) row x refl fits.0 in
-      omega (arith, here, counted (suc n) es fits.1, length_append (rows_at fs n e.0 e.1) (rows_from fs (suc n) es),
-        length_append (objects_at n e.1) (by_pid (λ pid name s. objects_at pid s) (suc n) es), length_append (pick n e.0 e.1) (by_pid pick (suc n) es))
+      omega (
+        arith,
+        here,
+        counted (suc n) es fits.1,
+        length_append (rows_at fs n e.0 e.1) (rows_from fs (suc n) es),
+        length_append (objects_at n e.1) (by_pid (λ pid name s. objects_at pid s) (suc n) es),
+        length_append (pick n e.0 e.1) (by_pid pick (suc n) es),
+      )
 
   -- the row of a kept name
   kept_row : (a b : Bool) (row : ShapeRow) (rest : List ShapeRow) → (a || b) ≡ true
@@ -118,7 +122,7 @@ module _ (entry : ℕ → ℕ) (count : ℕ → ℕ → ℕ) (fs : List Function
   finds_next : (rows : List ShapeRow) (n : ℕ) (e : List ℕ × Symbol) (es : Table) → Finds rows n (e ∷ es) → Finds rows (suc n) es
   finds_next rows n e es h pid le =
       h pid (omega (arith, le)) ∙ skips (λ (x : ShapeRow). x.pid) n pid (rows_at fs n e.0 e.1) (rows_from fs (suc n) es) (one_row fs n e.0 e.1)
-          (λ q. absurd (omega (arith, q, le)))
+      (λ q. absurd (omega (arith, q, le)))
 
   object_shapes : (rows : List ShapeRow) (n : ℕ) (es : Table) → Finds rows n es
       → AllByRecursion (λ (o : ObjectParts). shape_at rows o.pid ≡ Some (shape.Object o.words)) (by_pid (λ pid name s. objects_at pid s) n es)
@@ -133,10 +137,12 @@ module _ (entry : ℕ → ℕ) (count : ℕ → ℕ → ℕ) (fs : List Function
           → AllByRecursion (λ (o : ObjectParts). shape_at rows o.pid ≡ Some (shape.Object o.words))
           (if b then record { pid = n; words = words e.1.entity; init = trimmed e.1.init } ∷ [] else [])
       here false is = tt
-      here true is =
-          (ap shape_of_row (h n (omega arith) ∙ kept_row (is_some (function_at fs n)) (is_object e.1) row (rows_from fs (suc n) es)
-              (ap (λ b. is_some (function_at fs n) || b) is ∙ or_right (is_some (function_at fs n))))
-          ∙ ap (λ x. Some x) (has_words e.1 is).1, tt)
+      here true is = (
+        ap shape_of_row (h n (omega arith) ∙ kept_row (is_some (function_at fs n)) (is_object e.1) row (rows_from fs (suc n) es)
+            (ap (λ b. is_some (function_at fs n) || b) is ∙ or_right (is_some (function_at fs n))))
+            ∙ ap (λ x. Some x) (has_words e.1 is).1,
+        tt,
+      )
 
   routine_shapes : (rows : List ShapeRow) (n : ℕ) (es : Table) → Finds rows n es → AreEntities fs n es
       → AllByRecursion (λ (r : RoutineParts). shape_at rows r.pid ≡ Some (shape.Routine r.params r.value)) (by_pid pick n es)
@@ -150,11 +156,13 @@ module _ (entry : ℕ → ℕ) (count : ℕ → ℕ → ℕ) (fs : List Function
       here : (o : Option Function) → function_at fs n ≡ o → IsEntityOf o e.1
           → AllByRecursion (λ (r : RoutineParts). shape_at rows r.pid ≡ Some (shape.Routine r.params r.value)) (routines_at entry count o)
       here None is fit = tt
-      here (Some f) is fit =
-          (ap (λ m. shape_at rows m) (found_number (λ (x : Function). x.pid) n fs f is)
-          ∙ ap shape_of_row (h n (omega arith) ∙ kept_row (is_some (function_at fs n)) (is_object e.1) row (rows_from fs (suc n) es)
-              (ap (λ o. is_some o || is_object e.1) is))
-          ∙ ap (λ x. Some x) fit, tt)
+      here (Some f) is fit = (
+        ap (λ m. shape_at rows m) (found_number (λ (x : Function). x.pid) n fs f is)
+            ∙ ap shape_of_row (h n (omega arith) ∙ kept_row (is_some (function_at fs n)) (is_object e.1) row (rows_from fs (suc n) es)
+            (ap (λ o. is_some o || is_object e.1) is))
+            ∙ ap (λ x. Some x) fit,
+        tt,
+      )
 
   -- ---- names, numbers, words, routines
 
@@ -164,7 +172,7 @@ module _ (entry : ℕ → ℕ) (count : ℕ → ℕ → ℕ) (fs : List Function
   other_rows n name (e ∷ es) h = all_append _ (rows_at fs n e.0 e.1) _ (here (is_some (function_at fs n) || is_object e.1)) (other_rows (suc n) name es h.1)
     where
       here : (b : Bool) → AllByRecursion (λ (row : ShapeRow). row.name ≢ name)
-      (if b then record { pid = n; name = e.0; shape = shape_of e.1.entity } ∷ [] else [])
+          (if b then record { pid = n; name = e.0; shape = shape_of e.1.entity } ∷ [] else [])
       here true = (h.0, tt)
       here false = tt
 
@@ -177,7 +185,7 @@ module _ (entry : ℕ → ℕ) (count : ℕ → ℕ → ℕ) (fs : List Function
   names_once n [] h = tt
   names_once n (e ∷ es) h =
       row_once (is_some (function_at fs n) || is_object e.1) (record { pid = n; name = e.0; shape = shape_of e.1.entity }) (rows_from fs (suc n) es)
-          (other_rows (suc n) e.0 es h.0) (names_once (suc n) es h.1)
+      (other_rows (suc n) e.0 es h.0) (names_once (suc n) es h.1)
 
   numbers_fit : (n : ℕ) (es : Table) → n + length es ≤ max_pids → AllByRecursion (λ (row : ShapeRow). IsPid row.pid) (rows_from fs n es)
   numbers_fit n [] le = tt
@@ -185,7 +193,7 @@ module _ (entry : ℕ → ℕ) (count : ℕ → ℕ → ℕ) (fs : List Function
       all_append _ (rows_at fs n e.0 e.1) _ (here (is_some (function_at fs n) || is_object e.1)) (numbers_fit (suc n) es (omega (arith, le)))
     where
       here : (b : Bool) → AllByRecursion (λ (row : ShapeRow). IsPid row.pid)
-      (if b then record { pid = n; name = e.0; shape = shape_of e.1.entity } ∷ [] else [])
+          (if b then record { pid = n; name = e.0; shape = shape_of e.1.entity } ∷ [] else [])
       here true = (omega (arith, le), tt)
       here false = tt
 
@@ -231,9 +239,12 @@ module _ (entry : ℕ → ℕ) (count : ℕ → ℕ → ℕ) (fs : List Function
   main_row name n zero (e ∷ es) fits lt here has main =
       let q : n + 0 ≡ n = omega arith in
       let yes = subst (λ m. IsTrue (is_some (function_at fs m))) q has in
-      let row : ShapeRow = record { pid = n; name = e.0; shape = shape_of e.1.entity } in
-      (row, stands (is_some (function_at fs n)) (is_object e.1) row (rows_from fs (suc n) es) yes, sym (same_text name e.0 (sym here)),
-        entity_shape (function_at fs n) e.1 fits.0 yes (λ f is. main f (ap (function_at fs) q ∙ is)))
+      let row : ShapeRow = record { pid = n; name = e.0; shape = shape_of e.1.entity } in (
+        row,
+        stands (is_some (function_at fs n)) (is_object e.1) row (rows_from fs (suc n) es) yes,
+        sym (same_text name e.0 (sym here)),
+        entity_shape (function_at fs n) e.1 fits.0 yes (λ f is. main f (ap (function_at fs) q ∙ is)),
+      )
     where
       stands : (a b : Bool) (row : ShapeRow) (rest : List ShapeRow) → IsTrue a → Contains ((if a || b then row ∷ [] else []) ++ rest) row
       stands true b row rest has = (0, omega arith, refl)
