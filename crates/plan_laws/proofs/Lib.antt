@@ -8,6 +8,7 @@ pub mod Passing
 pub mod Levels
 pub mod Waves
 pub mod Chosen
+pub mod DeadRoutines
 pub mod InstrLimits
 pub mod RoutineLimits
 pub mod Sizes
