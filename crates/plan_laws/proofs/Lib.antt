@@ -8,6 +8,8 @@ pub mod Passing
 pub mod Levels
 pub mod Waves
 pub mod Chosen
+pub mod Ranking
+pub mod OrderLaws
 pub mod DeadRoutines
 pub mod InstrLimits
 pub mod RoutineLimits

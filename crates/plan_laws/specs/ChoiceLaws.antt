@@ -1,16 +1,17 @@
 -- The laws of the choice.
 use Rattle.std.specs.Prelude.{◌≡◌, ℕ, ◌<◌, true, List, Some, slice_get}
 use Rattle.std.specs.List.{AllByRecursion}
+use Rattle.std.specs.List.Sorted.{IsPermutation, IsSortedBy}
 use Rattle.il_core.specs.declared.program.IlProgram.{IlProgram}
 use Rattle.il_core.specs.Program.{routine_at, main_pid}
 use Rattle.il_core.specs.Routine.{RoutineParts}
 use Rattle.il_core.specs.Valid.{IsProgram}
 use Rattle.il_laws.specs.Known.{KnownSite, known_sites}
-use Rattle.plan_laws.specs.Choosing.{choice}
+use Rattle.plan_laws.specs.Choosing.{ranks_before, ranked_sites, choice}
 use Rattle.plan_laws.specs.Inlining.{by_waves, inlined_routines}
 use Rattle.plan_laws.specs.Levels.{level, is_acyclic, height}
 use Rattle.plan_laws.specs.Numbers.{Choice}
-use Rattle.plan_laws.specs.Summary.{summaries}
+use Rattle.plan_laws.specs.Summary.{summaries, CallSite, call_sites}
 
 -- these numbers of routines fall along each call
 abbrev pub Falls : (ℕ → ℕ) → List Choice → Type 0
@@ -52,3 +53,8 @@ pub record IsFit (p : IlProgram) (cs : List Choice) : Type 0 where
 
 abbrev pub ChoiceFits : Type 0
 ChoiceFits = (p : IlProgram) → IsProgram p → (limit : ℕ) → IsFit p (chosen p limit)
+
+-- The ranking is the only one: all sites of a valid program, put in order by rank, are the ranked sites.
+abbrev pub RankingIsOnly : Type 0
+RankingIsOnly = (p : IlProgram) → IsProgram p → (xs : List CallSite) → IsPermutation (call_sites (summaries p)) xs → IsSortedBy ranks_before xs
+    → xs ≡ ranked_sites (summaries p)

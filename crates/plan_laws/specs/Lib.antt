@@ -1,5 +1,6 @@
 pub mod Choosing
 pub mod Dead
+pub mod DeadLaws
 pub mod Groups
 pub mod Inlining
 pub mod Levels

@@ -1,6 +1,6 @@
 //! The laws of the choice.
 
-ghost use Rattle.plan_laws.specs.ChoiceLaws.{LevelsFall, FreeOfCycles, ChoiceFits, WavesAgree, ChosenWavesAgree};
+ghost use Rattle.plan_laws.specs.ChoiceLaws.{LevelsFall, FreeOfCycles, ChoiceFits, RankingIsOnly, WavesAgree, ChosenWavesAgree};
 
 /// Accepted calls are free of cycles exactly where the routines have numbers that fall along each of them;
 /// the levels are such numbers.
@@ -19,4 +19,9 @@ pub fn choice_fits()
 pub fn waves_agree()
     ensures any { WavesAgree }
     ensures chosen { ChosenWavesAgree }
+{}
+
+/// There is one ranking of the sites, so any sort gives it.
+pub fn ranking_is_only()
+    ensures { RankingIsOnly }
 {}

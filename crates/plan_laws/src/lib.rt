@@ -5,7 +5,9 @@
 mod choosing;
 mod costs;
 mod meaning;
+mod retiring;
 
-pub use choosing::{choice_fits, levels_fall, waves_agree};
+pub use choosing::{choice_fits, levels_fall, ranking_is_only, waves_agree};
 pub use costs::{budget_kept, limits_kept, numbers_known, passes_within};
 pub use meaning::{final_keeps, plan_keeps, table_keeps};
+pub use retiring::{dead_known};
