@@ -1,5 +1,5 @@
 -- What is reached by summaries is what is live in the program.
-use Rattle.std.proofs.Common.{◌≡◌, ℕ, List, [], ◌∷◌, map, Bool, true, false, refl, ap, ap₂, sym, ◌∙◌}
+use Rattle.std.proofs.Common.{◌≡◌, ℕ, List, [], ◌∷◌, map, Bool, true, false, refl, ap, ap₂, ◌∙◌}
 use Rattle.std.specs.Prelude.{not, filter, if◌then◌else◌}
 use Rattle.il_core.specs.declared.program.IlProgram.{IlProgram}
 use Rattle.il_core.specs.Program.{main_pid}

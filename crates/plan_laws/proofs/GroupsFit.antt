@@ -25,7 +25,7 @@ module _ {X : Type 0} (P : X → Type 0) (before : X → X → Bool) where
   inserted_if true x y ys zs hx hy h g = (hy, g)
   inserted_if false x y ys zs hx hy h g = (hx, (hy, h))
 
-  inserted_all : (x : X) (ys : List X) → P x → AllByRecursion P ys → AllByRecursion P (inserted before x ys)
+  pub inserted_all : (x : X) (ys : List X) → P x → AllByRecursion P ys → AllByRecursion P (inserted before x ys)
   inserted_all x [] hx h = (hx, tt)
   inserted_all x (y ∷ ys) hx h = inserted_if (before y x) x y ys (inserted before x ys) hx h.0 h.1 (inserted_all x ys hx h.1)
 

@@ -9,6 +9,10 @@ pub mod Levels
 pub mod Waves
 pub mod Chosen
 pub mod Ranking
+pub mod Keys
+pub mod Accepted
+pub mod GroupRanking
+pub mod Members
 pub mod OrderLaws
 pub mod DeadRoutines
 pub mod InstrLimits

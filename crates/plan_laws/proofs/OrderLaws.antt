@@ -1,5 +1,5 @@
 -- A list in order is the only one with its elements, where elements of one rank are equal.
-use Rattle.std.proofs.Common.{◌≡◌, ℕ, zero, suc, ◌+◌, ◌<◌, ◌≤◌, ◌⊎◌, inl, inr, List, [], ◌∷◌, Bool, true, false, refl, ap, ap₂, subst, sym, ◌∙◌, arith, length, eqb-true, eq-eqb, ltb-true, lt-ltb, ltb-false}
+use Rattle.std.proofs.Common.{◌≡◌, ℕ, suc, ◌+◌, ◌<◌, ◌≤◌, ◌⊎◌, inl, inr, List, [], ◌∷◌, Bool, true, false, refl, ap, ap₂, sym, ◌∙◌, arith, length, eqb-true, eq-eqb, ltb-true, lt-ltb, ltb-false}
 use Rattle.std.specs.Prelude.{nat_eq, nat_lt, if◌then◌else◌, sum_by, get_or, ⊤}
 use Rattle.std.specs.List.{AllByRecursion}
 use Rattle.std.specs.List.Sorted.{IsPermutation, IsSortedBy}
@@ -33,6 +33,7 @@ more_is m n o lt =
     by_test : (b : Bool) → nat_eq m n ≡ b → b ≡ false
     by_test true e = let same = eqb-true m n e in absurd (omega arith)
     by_test false e = refl
+
     differs : nat_eq m n ≡ false
     differs = by_test (nat_eq m n) refl
 
@@ -48,6 +49,7 @@ three_ways m n = by_less (nat_lt m n) refl
       where
         above : n ≤ m → (m ≡ n → ⊥) → n < m
         above le ne = omega arith
+
     by_less : (b : Bool) → nat_lt m n ≡ b → (m < n) ⊎ ((m ≡ n) ⊎ (n < m))
     by_less true e = inl (ltb-true m n e)
     by_less false e = by_same (nat_eq m n) refl e
@@ -222,4 +224,5 @@ module _ {X : Type 0} (before : X → X → Bool) (order : IsStrictWeakOrder bef
       → AllByRecursion S zs → AllByRecursion S xs → AllByRecursion S (sorted before zs) → IsPermutation zs xs → IsSortedBy before xs → xs ≡ sorted before zs
   sorted_only S ties zs xs sz sx ss perm rises =
       one_list S ties xs (sorted before zs)
-      (λ f. (let a = sum_by-IsPermutation f zs xs perm in let b = sorted_sum zs f in omega arith)) sx ss (up_of xs (sorted_far before order xs rises)) (sorted_up zs)
+      (λ f. (let a = sum_by-IsPermutation f zs xs perm in let b = sorted_sum zs f in omega arith)) sx ss (up_of xs (sorted_far before order xs rises))
+      (sorted_up zs)

@@ -75,7 +75,7 @@ module _ (names : List ShapeRow) (once : HasEachNameOnce names) where
       each_step simplify st sound
       (each_follows p sound.valid simplify (λ x r e. simplify_serves p r (routine_valid p sound.valid x r e)))
 
-  added : (budget limit : ℕ) (st : State) → IsSound names st → Added names st (add_clones names (pass_groups budget limit st) st)
+  pub added : (budget limit : ℕ) (st : State) → IsSound names st → Added names st (add_clones names (pass_groups budget limit st) st)
   added zero limit st sound = record { sound = sound; grows = grows_itself st.program sound.valid }
   added (suc budget) limit st sound =
       let p = st.program in

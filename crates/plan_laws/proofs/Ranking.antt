@@ -1,7 +1,7 @@
 -- The ranks of sites and of groups are orders, and elements of one rank are equal: so each ranking is the only one.
-use Rattle.std.proofs.Common.{◌≡◌, ℕ, suc, ◌≤◌, List, [], ◌∷◌, Bool, true, false, refl, ap, subst, sym, ◌∙◌, arith, ltb-true, ltb-false, le-ltb, slice_get}
+use Rattle.std.proofs.Common.{◌≡◌, ℕ, ◌≤◌, List, Bool, true, false, ap, sym, ◌∙◌, arith, ltb-true, ltb-false, le-ltb, slice_get}
 use Rattle.std.specs.Prelude.{nat_lt, Some}
-use Rattle.std.specs.List.{AllByRecursion, All}
+use Rattle.std.specs.List.{AllByRecursion}
 use Rattle.std.specs.List.Sorted.{IsPermutation, IsSortedBy}
 use Rattle.std.specs.Cmp.{IsStrictWeakOrder}
 use Rattle.std.proofs.lemmas.List.Sorted.{All-permutation}
@@ -10,7 +10,7 @@ use Rattle.il_core.specs.declared.program.IlProgram.{IlProgram}
 use Rattle.il_core.specs.Program.{routine_at}
 use Rattle.il_core.specs.Routine.{RoutineParts}
 use Rattle.il_core.specs.Valid.{IsProgram}
-use Rattle.il_laws.specs.Known.{KnownSite, known_sites}
+use Rattle.il_laws.specs.Known.{known_sites}
 use Rattle.plan_laws.specs.Orders.{less_or}
 use Rattle.plan_laws.specs.Summary.{summaries, CallSite, call_sites}
 use Rattle.plan_laws.specs.Choosing.{ranks_before, ranked_sites}

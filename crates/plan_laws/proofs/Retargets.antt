@@ -26,7 +26,7 @@ pub record IsGood (p : IlProgram) (row : Row) : Type 0 where
   pub right : IsRight p row
   pub shape : HasCalleesShape p row
 
-same_entry : (x y : Fixed) → x.param ≡ y.param → x.word.0 ≡ y.word.0 → x ≡ y
+pub same_entry : (x y : Fixed) → x.param ≡ y.param → x.word.0 ≡ y.word.0 → x ≡ y
 same_entry x y e g = ap₂ {A = ℕ} {B = ℕ} {C = Fixed} (λ a b. record { param = a; word = record { 0 = b } }) e g
 
 pub same_fixed_is : (xs ys : List Fixed) → same_fixed xs ys ≡ true → xs ≡ ys

@@ -1,6 +1,7 @@
 pub mod Choosing
 pub mod Dead
 pub mod DeadLaws
+pub mod GroupLaws
 pub mod Groups
 pub mod Inlining
 pub mod Levels

@@ -4,10 +4,12 @@
 
 mod choosing;
 mod costs;
+mod grouping;
 mod meaning;
 mod retiring;
 
 pub use choosing::{choice_fits, levels_fall, ranking_is_only, waves_agree};
 pub use costs::{budget_kept, limits_kept, numbers_known, passes_within};
+pub use grouping::{group_ranking_is_only, groups_move};
 pub use meaning::{final_keeps, plan_keeps, table_keeps};
-pub use retiring::{dead_known};
+pub use retiring::dead_known;
