@@ -12,8 +12,9 @@ use hlo_num::Seq;
 use il_core::{Block, End, Routine};
 use std::alloc::{AllocError, Global};
 
-/// A routine whose branches on a known register, and those with equal targets, are jumps. The only error is want of
-/// memory. It costs what `propagate` costs.
+/// A routine whose branches on a known register, and those with equal targets, are jumps. It keeps what every routine
+/// does (`il_laws::fold_branches_keeps`). The only error is want of memory. It takes time and memory for a copy of the
+/// routine, and one pass of facts over it (`const_prop::Flow`).
 pub fn fold_branches(alloc: Global, r: &Routine) -> Result<Routine, AllocError>
     requires { IsValidRoutine r.now }
     ensures { IfOk result (λ q. q ≡ fold_branches r.now) }
@@ -21,7 +22,8 @@ pub fn fold_branches(alloc: Global, r: &Routine) -> Result<Routine, AllocError>
     fold_branches_owned(alloc, copy_routine(alloc, r)?)
 }
 
-/// The same of a routine that isn't wanted any more: its ends are replaced in place.
+/// The same of a routine that isn't wanted any more: its ends are replaced in place, so that it takes one pass of facts
+/// and no copy. The only error is want of memory.
 pub fn fold_branches_owned(alloc: Global, r: Routine) -> Result<Routine, AllocError>
     requires { IsValidRoutine r }
     ensures { IfOk result (λ q. q ≡ fold_branches r) }

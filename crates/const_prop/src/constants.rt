@@ -14,8 +14,9 @@ use il_core::{Block, Routine};
 use std::alloc::{AllocError, Global};
 use std::mem;
 
-/// A routine whose `move`s, conversions and operators with a known result are constants. The only error is want of
-/// memory.
+/// A routine whose `move`s, conversions and operators with a known result are constants. It keeps what every routine
+/// does (`il_laws::propagate_keeps`). The only error is want of memory. It takes time and memory for a copy of the
+/// routine, and one pass of facts over it (`Flow`).
 pub fn propagate(alloc: Global, r: &Routine) -> Result<Routine, AllocError>
     requires { IsValidRoutine r.now }
     ensures { IfOk result (λ q. q ≡ propagate r.now) }
@@ -23,7 +24,8 @@ pub fn propagate(alloc: Global, r: &Routine) -> Result<Routine, AllocError>
     propagate_owned(alloc, copy_routine(alloc, r)?)
 }
 
-/// The same of a routine that isn't wanted any more: its instructions are replaced in place.
+/// The same of a routine that isn't wanted any more: its instructions are replaced in place, so that it takes one pass
+/// of facts and no copy. The only error is want of memory.
 pub fn propagate_owned(alloc: Global, r: Routine) -> Result<Routine, AllocError>
     requires { IsValidRoutine r }
     ensures { IfOk result (λ q. q ≡ propagate r) }

@@ -90,7 +90,7 @@ pub(crate) fn propagate_instrs(table: &mut [Option<u32>], instrs: &mut [Instr])
     }
 }
 
-/// Takes the facts through instructions.
+/// Takes the facts through instructions, in time in proportion to them and to the registers that `clear`s name.
 pub fn pass(table: &mut [Option<u32>], instrs: &[Instr])
     requires { AllByRecursion (NamesRegisters (length table.old)) instrs.now }
     ensures { Has (length table.old) table.new (through instrs.now (facts_in table.old)) }

@@ -15,7 +15,8 @@ use std::alloc::{AllocError, Global};
 /// By site of a routine, in order, each argument's word where it is known.
 pub type KnownArgs = Seq<Seq<Option<Word>>>;
 
-/// What is known at each call of a routine. The only error is want of memory.
+/// What is known at each call of a routine. The only error is want of memory. It takes one pass of facts over the
+/// routine (`Flow`), and memory for the arguments of its calls.
 pub fn site_constants(alloc: Global, r: &Routine) -> Result<KnownArgs, AllocError>
     requires { IsValidRoutine r.now }
     ensures { IfOk result (λ known. words_of known ≡ site_constants r.now) }
