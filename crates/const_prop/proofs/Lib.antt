@@ -1,0 +1,8 @@
+pub mod BlockSteps
+pub mod Following
+pub mod Lists
+pub mod Marked
+pub mod SiteSteps
+pub mod Through
+pub mod Whole
+pub mod Writes
