@@ -1,20 +1,18 @@
 -- A loop over blocks whose ends are folded.
-use Rattle.std.proofs.Common.{◌≡◌, ℕ, suc, ◌+◌, ◌<◌, List, [], ◌∷◌, ◌++◌, get_or, set, drop, take, length, refl, ap, subst, sym, ◌∙◌, arith}
+use Rattle.std.proofs.Common.{◌≡◌, ℕ, ◌+◌, ◌<◌, List, [], ◌∷◌, ◌++◌, get_or, set, drop, take, length, refl, ap, subst, sym, ◌∙◌, arith}
 use Rattle.std.specs.Prelude.{Option, Bool, nat_eq, if◌then◌else◌}
 use Rattle.std.specs.List.{AllByRecursion}
 use Rattle.std.proofs.lemmas.List.{take_at}
 use Rattle.il_core.specs.declared.instr.Block.{Block}
 use Rattle.il_core.specs.declared.instr.End.{End}
 use Rattle.il_core.specs.declared.instr.End.TheVariants as ends
-use Rattle.il_core.specs.declared.instr.Instr.{Instr}
 use Rattle.il_core.specs.declared.shape.ShapeRow.{ShapeRow}
 use Rattle.il_core.specs.Routine.{RoutineParts}
-use Rattle.il_core.specs.Operands.{end_source}
-use Rattle.il_core.specs.Valid.{IsRegIfSome, IsValidEnd, AreValidBlocks}
+use Rattle.il_core.specs.Valid.{IsValidEnd, AreValidBlocks}
 use Rattle.il_laws.specs.Facts.{Facts, facts_at, through}
 use Rattle.il_laws.specs.Propagate.{taken, folded, folded_block}
 use Rattle.const_prop.specs.Tables.{NamesRegisters, AreNamed, IsValidRoutine, facts_in, Has}
-use Rattle.const_prop.specs.Flow.{Entered, Left, Follows, bare, start_of}
+use Rattle.const_prop.specs.Flow.{Entered, Left, bare, start_of}
 use Rattle.const_prop.specs.declared.flow.Flow.{Flow}
 use Rattle.const_prop.proofs.Lists.{all_drop}
 use Rattle.const_prop.proofs.Through.{Agree}
