@@ -99,7 +99,8 @@ module _ (s : Scope) where
   abbrev layer : TypedExpr-F Place TypedExpr → tree.Expr
   layer x = expr_layer (map-TypedExpr Place TypedExpr tree.Place tree.Expr place_of expr_of x)
 
-  node_typed : (x : TypedExpr-F Place TypedExpr) (ty : Option Ty) → IsExpr s (layer x) × (type_of (layer x) ≡ ty) → (IsTyped s) (rules.node ty (roll-TypedExpr x))
+  node_typed : (x : TypedExpr-F Place TypedExpr) (ty : Option Ty) → IsExpr s (layer x) × (type_of (layer x) ≡ ty)
+      → (IsTyped s) (rules.node ty (roll-TypedExpr x))
   node_typed x ty ok =
       let made : expr_of (roll-TypedExpr x) ≡ layer x = fold-roll-TypedExpr tree.Place tree.Expr place_layer expr_layer x in
       (subst (IsExpr s) (sym made) ok.0, ap type_of made ∙ ok.1)
@@ -142,7 +143,8 @@ module _ (s : Scope) (o : Here) where
 
   -- ## Values
 
-  valued_of_keeps : (line : ℕ) (ty : Option Ty) (e : TypedExpr) → (IsTyped s) (rules.node ty e) → Keeps s o (IsValued s) (rules.valued_of line (rules.node ty e))
+  valued_of_keeps : (line : ℕ) (ty : Option Ty) (e : TypedExpr) → (IsTyped s) (rules.node ty e)
+      → Keeps s o (IsValued s) (rules.valued_of line (rules.node ty e))
   valued_of_keeps line None e ok = breaks line kinds.VoidValue
   valued_of_keeps line (Some ty) e ok = gives (record { ty = ty; expr = e }) ok
 
@@ -299,9 +301,11 @@ module _ (s : Scope) (o : Here) where
       gives (rules.compound_node q t v)
       (node_typed s (TypedExpr-F.Compound t.ty q (left_type q t.ty v.ty) t.place (converted b v)) (Some t.ty) ((is, converted_value s b v good), refl))
 
-  assignment_keeps : (line : ℕ) (q : Option Written) (t : Target) (v : Valued) → (IsTarget s) t → (IsValued s) v → Keeps s o (IsTyped s) (rules.assignment line q t v)
+  assignment_keeps : (line : ℕ) (q : Option Written) (t : Target) (v : Valued) → (IsTarget s) t → (IsValued s) v
+      → Keeps s o (IsTyped s) (rules.assignment line q t v)
   assignment_keeps line None t v is good =
-      gives (rules.assign_node t v) (node_typed s (TypedExpr-F.Assign t.ty t.place (converted t.ty v)) (Some t.ty) ((is, converted_value s t.ty v good), refl))
+      gives (rules.assign_node t v) (node_typed s (TypedExpr-F.Assign t.ty t.place (converted t.ty v)) (Some t.ty)
+      ((is, converted_value s t.ty v good), refl))
   assignment_keeps line (Some q) t v is good = assigned_keeps line (sorted q) t v is good
 
   cast_keeps : (to : Option Ty) (e : Typing) → AreKept e → Keeps s o (IsTyped s) (rules.cast to e)
@@ -323,7 +327,8 @@ module _ (s : Scope) (o : Here) where
   arms_type_keeps la (Some a) lb None = breaks lb kinds.VoidValue
   arms_type_keeps la (Some a) lb (Some b) = gives _ (refl, refl)
 
-  arm_typed : (to from : Option Ty) (e : TypedExpr) → is_some to ≡ is_some from → (IsTyped s) (rules.node from e) → (IsTyped s) (rules.node to (arm to from e))
+  arm_typed : (to from : Option Ty) (e : TypedExpr) → is_some to ≡ is_some from → (IsTyped s) (rules.node from e)
+      → (IsTyped s) (rules.node to (arm to from e))
   arm_typed None None e fit good = good
   arm_typed None (Some from) e fit good = absurd cc
   arm_typed (Some to) None e fit good = absurd cc
@@ -468,7 +473,8 @@ module _ (s : Scope) (o : Here) where
   given_value_keeps (Some e) next ok =
       and (constant_valued_keeps e ok) (λ c any. and (word_keeps c.value) (λ w any1. gives (value_in c.ty w) tt))
 
-  pub enumeration_constant_keeps : (c : Enumerator-F Typing (Rule Part) (ℤ → Rule ℤ) (Site → Rule Specified)) → IsValueKept c.value → AllNumbers (rules.enumeration_constant c)
+  pub enumeration_constant_keeps : (c : Enumerator-F Typing (Rule Part) (ℤ → Rule ℤ) (Site → Rule Specified)) → IsValueKept c.value
+      → AllNumbers (rules.enumeration_constant c)
   enumeration_constant_keeps c ok next = and (given_value_keeps c.value next ok) (λ v any. enumerator_keeps c.name v)
 
   abbrev pub AllCounted : List (ℤ → Rule ℤ) → Type 0

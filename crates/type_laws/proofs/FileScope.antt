@@ -67,7 +67,8 @@ stays_more n k le h st = record {
 
 -- ## The table grows
 
-insert_if : (es : Table) (e f : List ℕ × Symbol) (more : Table) (b : Bool) → length es ≤ length more → length (e ∷ es) ≤ length (if b then f ∷ es else e ∷ more)
+insert_if : (es : Table) (e f : List ℕ × Symbol) (more : Table) (b : Bool) → length es ≤ length more
+    → length (e ∷ es) ≤ length (if b then f ∷ es else e ∷ more)
 insert_if es e f more true le = omega arith
 insert_if es e f more false le = omega (arith, le)
 
@@ -98,7 +99,8 @@ module _ (s : Scope) (o : Here) where
       (choose (rules.is_extern storage || function) (gives (rules.was_internal old) tt)
       (and (tests (not (rules.was_internal old)) line kinds.Linkage) (λ u a. gives false tt)))
 
-  entered_keeps : (line : ℕ) (standing : Standing) (name : List ℕ) (said : Entity) (refused : Option SymFault) → Keeps s o Any (rules.entered line standing name said refused)
+  entered_keeps : (line : ℕ) (standing : Standing) (name : List ℕ) (said : Entity) (refused : Option SymFault)
+      → Keeps s o Any (rules.entered line standing name said refused)
   entered_keeps line standing name said (Some fault) = breaks line (rules.fault_kind fault)
   entered_keeps line standing name said None =
       and (knows (λ (h : Here). number_of h.syms name)) (λ pid a0.
@@ -127,7 +129,8 @@ module _ (s : Scope) (o : Here) where
   library_named false true x y z nx ny nz = ny
   library_named false false x y z nx ny nz = nz
 
-  declare_library_keeps : (x : Identifier) (storage : Option Storage) (said : Entity) (defines : Bool) → Keeps s o Any (rules.declare_library x storage said defines)
+  declare_library_keeps : (x : Identifier) (storage : Option Storage) (said : Entity) (defines : Bool)
+      → Keeps s o Any (rules.declare_library x storage said defines)
   declare_library_keeps x storage said defines =
       and (tests (not defines && not (rules.is_static storage) && rules.is_library_type (rules.library_entity x.name) said) x.line kinds.Library) (λ u a0.
       and (knows (bound_here x.name)) (λ old a1.
@@ -135,7 +138,8 @@ module _ (s : Scope) (o : Here) where
       binds x.name (rules.library_binding x.name) (library_named (same_name (codes "getchar") x.name) (same_name (codes "putchar") x.name)
       (bindings.Library library.GetChar) (bindings.Library library.PutChar) (bindings.Library library.Exit) tt tt tt))))
 
-  pub declare_function_keeps : (number : ℕ) (x : Identifier) (storage : Option Storage) (said : Entity) → Keeps s o Any (rules.declare_function number x storage said)
+  pub declare_function_keeps : (number : ℕ) (x : Identifier) (storage : Option Storage) (said : Entity)
+      → Keeps s o Any (rules.declare_function number x storage said)
   declare_function_keeps number x storage said =
       choose (is_library x.name) (declare_library_keeps x storage said false)
       (and (link_keeps number x storage true standings.Declared said) (λ l a0. binds x.name (bindings.Function l.pid l.internal) tt))

@@ -44,7 +44,8 @@ use Rattle.type_laws.proofs.Typings.{specifying_keeps}
 
 -- ## The names of an inner scope
 
-inner_named_if : (s : Scope) (d : Declared Binding) (ds : List (Declared Binding)) (b : Bool) → IsNamed s d.stands_for → AreNamed s ds → AreNamed s (if b then d ∷ ds else [])
+inner_named_if : (s : Scope) (d : Declared Binding) (ds : List (Declared Binding)) (b : Bool) → IsNamed s d.stands_for → AreNamed s ds
+    → AreNamed s (if b then d ∷ ds else [])
 inner_named_if s d ds true ok more = (ok, more)
 inner_named_if s d ds false ok more = tt
 
@@ -52,7 +53,8 @@ inner_named : (s : Scope) (n : ℕ) (ds : List (Declared Binding)) → AreNamed 
 inner_named s n [] ok = tt
 inner_named s n (d ∷ ds) ok = inner_named_if s d (inner n ds) (d.depth == n) ok.0 (inner_named s n ds ok.1)
 
-inner_within_if : (n : ℕ) (d : Declared Binding) (ds : List (Declared Binding)) (b : Bool) → (d.depth == n) ≡ b → AreWithin n ds → AreWithin n (if b then d ∷ ds else [])
+inner_within_if : (n : ℕ) (d : Declared Binding) (ds : List (Declared Binding)) (b : Bool) → (d.depth == n) ≡ b → AreWithin n ds
+    → AreWithin n (if b then d ∷ ds else [])
 inner_within_if n d ds true e more = let same = eqb-true d.depth n e in (omega (arith, same), more)
 inner_within_if n d ds false e more = tt
 
@@ -101,7 +103,8 @@ widens_after {A} {B} {o} {from} {P} {n} {Q} {rule} {next} p q = record { by = λ
     go (Gives a h) ok = (q a ok.1).by h ok.0
     go (Breaks line kind) ok = tt
 
-declare_parameter_keeps : (place : ℕ) (ty : Ty) (fixed : Bool) (x : Option Identifier) (o : Here) → Keeps (only (place + 1)) o Any (declare_parameter place ty fixed x)
+declare_parameter_keeps : (place : ℕ) (ty : Ty) (fixed : Bool) (x : Option Identifier) (o : Here)
+    → Keeps (only (place + 1)) o Any (declare_parameter place ty fixed x)
 declare_parameter_keeps place ty fixed None o = gives tt tt
 declare_parameter_keeps place ty fixed (Some x) o = declares_new x (bindings.Parameter place ty fixed) (omega arith)
 
@@ -118,7 +121,8 @@ more_parameters o place ty n rule p = record { by = λ h st. go (rule h) (p.by h
     go (Gives types g) ok = (stays_more (place + 1 + length types) (place + suc (length types)) (omega arith) g ok.0, ap suc ok.1)
     go (Breaks line kind) ok = tt
 
-parameters_from_widen : (o : Here) (place : ℕ) (ps : List Parameter) → Widens o place (upto place) (λ types. length types ≡ length ps) (parameters_from place ps)
+parameters_from_widen : (o : Here) (place : ℕ) (ps : List Parameter) → Widens o place (upto place) (λ types. length types ≡ length ps)
+    (parameters_from place ps)
 parameters_from_widen o place [] = record { by = λ h st. (stays_more place (place + 0) (omega arith) h st, refl) }
 parameters_from_widen o place (p ∷ ps) =
     widens_after (specifying_keeps (only place) o p.specifiers sites.Parameter) (λ sp a0.
@@ -133,7 +137,8 @@ parameters_from_widen o place (p ∷ ps) =
 abbrev IsParameters : List Parameter → List Ty → Type 0
 IsParameters ps types = length types ≤ length ps
 
-all_parameters : (o : Here) (ps : List Parameter) (rule : Rule (List Ty)) → Widens o 0 (upto 0) (λ types. length types ≡ length ps) rule → Widens o 0 length (IsParameters ps) rule
+all_parameters : (o : Here) (ps : List Parameter) (rule : Rule (List Ty)) → Widens o 0 (upto 0) (λ types. length types ≡ length ps) rule
+    → Widens o 0 length (IsParameters ps) rule
 all_parameters o ps rule p = record { by = λ h st. go (rule h) (p.by h st) }
   where
     go : (r : Reply (List Ty)) → Widened o (upto 0) (λ types. length types ≡ length ps) r → Widened o length (IsParameters ps) r
@@ -149,7 +154,8 @@ unnamed_widens o p =
     widens_after (specifying_keeps (only 0) o p.specifiers sites.Parameter) (λ sp a0.
     record { by = λ h st. (stays_more 0 (length (type_or_none sp.ty)) (omega arith) h st, one_at_most sp.ty) })
 
-either : {o : Here} {n : List Ty → ℕ} {Q : List Ty → Type 0} {x y : Rule (List Ty)} (b : Bool) → Widens o 0 n Q x → Widens o 0 n Q y → Widens o 0 n Q (if b then x else y)
+either : {o : Here} {n : List Ty → ℕ} {Q : List Ty → Type 0} {x y : Rule (List Ty)} (b : Bool) → Widens o 0 n Q x → Widens o 0 n Q y
+    → Widens o 0 n Q (if b then x else y)
 either true p q = p
 either false p q = q
 
@@ -187,13 +193,15 @@ left_again k o h g st x =
 scoped_parameters_keep : (o : Here) (ps : List Parameter) → Keeps (only 0) o Any (scoped (parameters ps))
 scoped_parameters_keep o ps = record { by = λ h st. go h st (parameters ps (enter h)) ((parameters_widen (enter h) ps).by (enter h) (entered o h st)) }
   where
-    go : (h : Here) → Stays (only 0) o h → (r : Reply (List Ty)) → Widened (enter h) length (IsParameters ps) r → Holds (only 0) o Any (followed r (λ a. change leave >> give a))
+    go : (h : Here) → Stays (only 0) o h → (r : Reply (List Ty)) → Widened (enter h) length (IsParameters ps) r
+        → Holds (only 0) o Any (followed r (λ a. change leave >> give a))
     go h st (Gives types g) ok = (left_again (length types) o h g st ok.0, tt)
     go h st (Breaks line kind) ok = tt
 
 -- ## Declarations at file scope
 
-file_function_keeps : (o : Here) (number : ℕ) (sp : Specified) (d : Declarator) (ps : List Parameter) → Keeps (only 0) o Any (rules.file_function number sp d ps)
+file_function_keeps : (o : Here) (number : ℕ) (sp : Specified) (d : Declarator) (ps : List Parameter)
+    → Keeps (only 0) o Any (rules.file_function number sp d ps)
 file_function_keeps o number sp d ps =
     and (scoped_parameters_keep o ps) (λ types a0.
     and (declare_function_keeps (only 0) o number d.name sp.storage (entities.Function sp.ty types)) (λ u a1. no_initialiser_keeps (only 0) o d.initialiser))
@@ -261,7 +269,8 @@ bodied_keeps o pid result params names b none is = record {
       (λ final.
       ((blocking_does (length params) final b).statements (record { result = result; breaks = false; continues = false })).by h1
       (record {
-        named = named_append (only (length params)) names.names h.names.declared is.named (all_more 0 (length params) (omega arith) h.names.declared st.named);
+        named = named_append (only (length params)) names.names h.names.declared is.named
+            (all_more 0 (length params) (omega arith) h.names.declared st.named);
         within = within_append (h.names.depth + 1) names.names h.names.declared (is_at h st).within
             (within_more h.names.depth (h.names.depth + 1) h.names.declared (omega arith) st.within);
       }));

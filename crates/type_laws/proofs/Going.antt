@@ -48,7 +48,8 @@ abbrev pub scope_with : ℕ → List Local → ℕ → Scope
 scope_with params ls n = record { params = params; locals = n; is_array = λ x. is_some_array (slice_get ls x) }
 
 -- what is named among some locals is so among more
-named_wider : (params : ℕ) (xs ys : List Local) (n : ℕ) → IsFront xs ys → length xs ≤ n → (b : Binding) → IsNamed (scope_with params xs (length xs)) b → IsNamed (scope_with params ys n) b
+named_wider : (params : ℕ) (xs ys : List Local) (n : ℕ) → IsFront xs ys → length xs ≤ n → (b : Binding)
+    → IsNamed (scope_with params xs (length xs)) b → IsNamed (scope_with params ys n) b
 named_wider params xs ys n f le (bindings.Parameter place ty fixed) ok = ok
 named_wider params xs ys n f le (bindings.Local place ty fixed extent) ok =
     (omega (arith, ok.0, le), ap is_some_array (ap (λ l. slice_get l place) f.1 ∙ slice_in_front xs f.0 place ok.0) ∙ ok.1)
@@ -57,7 +58,8 @@ named_wider params xs ys n f le (bindings.Library x) ok = tt
 named_wider params xs ys n f le (bindings.Function pid internal) ok = tt
 named_wider params xs ys n f le (bindings.Object pid internal ty fixed extent) ok = tt
 
-pub all_wider : (params : ℕ) (xs ys : List Local) (n : ℕ) → IsFront xs ys → length xs ≤ n → (ds : List (Declared Binding)) → AreNamed (scope_with params xs (length xs)) ds → AreNamed (scope_with params ys n) ds
+pub all_wider : (params : ℕ) (xs ys : List Local) (n : ℕ) → IsFront xs ys → length xs ≤ n → (ds : List (Declared Binding))
+    → AreNamed (scope_with params xs (length xs)) ds → AreNamed (scope_with params ys n) ds
 all_wider params xs ys n f le [] ok = tt
 all_wider params xs ys n f le (d ∷ ds) ok = (named_wider params xs ys n f le d.stands_for ok.0, all_wider params xs ys n f le ds ok.1)
 
@@ -95,7 +97,15 @@ module _ (params : ℕ) (final : List Local) where
   sound_behind x = record { named = x.named; within = x.within }
 
   pub goes_none : {quiet : Bool} (h : Here) → Sound params h → Goes params quiet h h
-  goes_none h ok = record { named = ok.named; within = ok.within; depth = refl; outside = refl; front = front_none h.locals; table = omega arith; still = λ q s named. named }
+  goes_none h ok = record {
+    named = ok.named;
+    within = ok.within;
+    depth = refl;
+    outside = refl;
+    front = front_none h.locals;
+    table = omega arith;
+    still = λ q s named. named;
+  }
 
   pub goes_then : {quiet : Bool} {h g k : Here} → Goes params quiet h g → Goes params quiet g k → Goes params quiet h k
   goes_then {quiet} {h} {g} {k} x y = record {
@@ -117,7 +127,8 @@ module _ (params : ℕ) (final : List Local) where
 
   -- from a state further on
   pub led : {B : Type 0} {quiet : Bool} (Q1 Q : B → ℕ → ℕ → Type 0) (h g : Here) → Goes params quiet h g → (r : Reply B) → Leads quiet g Q1 r
-      → ((b : B) (k : Here) → Goes params quiet g k → IsFront k.locals final → Q1 b (length g.locals) (length k.locals) → Q b (length h.locals) (length k.locals)) → Leads quiet h Q r
+      → ((b : B) (k : Here) → Goes params quiet g k → IsFront k.locals final → Q1 b (length g.locals) (length k.locals)
+      → Q b (length h.locals) (length k.locals)) → Leads quiet h Q r
   led Q1 Q h g x (Gives b k) ok make = (goes_then x ok.0, λ front. make b k ok.0 front (ok.1 front))
   led Q1 Q h g x (Breaks line kind) ok make = tt
 
@@ -126,8 +137,18 @@ module _ (params : ℕ) (final : List Local) where
     where
       go : (h : Here) (r : Reply A) → Leads true h Q r → Leads quiet h Q r
       go h (Gives a g) ok =
-          let x = ok.0 in
-          (record { named = x.named; within = x.within; depth = x.depth; outside = x.outside; front = x.front; table = x.table; still = λ q. x.still refl }, ok.1)
+          let x = ok.0 in (
+            record {
+              named = x.named;
+              within = x.within;
+              depth = x.depth;
+              outside = x.outside;
+              front = x.front;
+              table = x.table;
+              still = λ q. x.still refl;
+            },
+            ok.1,
+          )
       go h (Breaks line kind) ok = tt
 
   pub followed_by : {A B : Type 0} {quiet : Bool} {P : A → ℕ → ℕ → Type 0} {Q : B → ℕ → ℕ → Type 0} {rule : Rule A} {next : A → Rule B}
@@ -165,7 +186,8 @@ module _ (params : ℕ) (final : List Local) where
       )
 
   -- a rule that declares no local, in front of others
-  after : {A B : Type 0} {quiet : Bool} (P : Scope → A → Type 0) (Q : B → ℕ → ℕ → Type 0) (Q1 : A → B → ℕ → ℕ → Type 0) (next : A → Rule B) (h : Here) (r : Reply A)
+  after : {A B : Type 0} {quiet : Bool} (P : Scope → A → Type 0) (Q : B → ℕ → ℕ → Type 0) (Q1 : A → B → ℕ → ℕ → Type 0) (next : A
+      → Rule B) (h : Here) (r : Reply A)
       → Sound params h → ((s : Scope) → Stays s h h → Holds s h (P s) r)
       → ((a : A) → ((s : Scope) → Stays s h h → P s a) → Does quiet (Q1 a) (next a))
       → ((a : A) (b : B) (n : ℕ) → Q1 a b (length h.locals) n → P (scope (length h.locals)) a → Q b (length h.locals) n)
@@ -181,7 +203,8 @@ module _ (params : ℕ) (final : List Local) where
 
   -- where what is good depends on the scope
   pub after_good : {A B : Type 0} {quiet : Bool} {Q : B → ℕ → ℕ → Type 0} {rule : Rule A} {next : A → Rule B} (P : Scope → A → Type 0)
-      → ((s : Scope) (o : Here) → Keeps s o (P s) rule) → ((a : A) → Does quiet (λ b n1 n2. P (scope n1) a → Q b n1 n2) (next a)) → Does quiet Q (rule >>= next)
+      → ((s : Scope) (o : Here) → Keeps s o (P s) rule) → ((a : A) → Does quiet (λ b n1 n2. P (scope n1) a → Q b n1 n2) (next a))
+      → Does quiet Q (rule >>= next)
   after_good {A} {B} {quiet} {Q} {rule} {next} P p q = record {
     by = λ h ok.
         after P Q (λ a b n1 n2. P (scope n1) a → Q b n1 n2) next h (rule h) ok (λ s st. (p s h).by h st)
@@ -205,7 +228,8 @@ module _ (params : ℕ) (final : List Local) where
   refused line kind = record { by = λ h sound. tt }
 
   -- behind a statement an expression is bound in the scope before it
-  pub then_outside : {A C B : Type 0} {P : A → ℕ → ℕ → Type 0} {Q : B → ℕ → ℕ → Type 0} {rule : Rule A} {later : Rule C} (made : A → C → B) (R : Scope → C → Type 0)
+  pub then_outside : {A C B : Type 0} {P : A → ℕ → ℕ → Type 0} {Q : B → ℕ → ℕ → Type 0} {rule : Rule A} {later : Rule C} (made : A → C
+      → B) (R : Scope → C → Type 0)
       → Does true P rule → ((s : Scope) (o : Here) → Keeps s o (R s) later)
       → ((a : A) (c : C) (n m : ℕ) → P a n m → R (scope n) c → Q (made a c) n m) → Does true Q (rule >>= λ a. (later >>= λ c. give (made a c)))
   then_outside {A} {C} {B} {P} {Q} {rule} {later} made R p each make = record { by = λ h ok. go h ok (rule h) (p.by h ok) }
@@ -231,7 +255,11 @@ module _ (params : ℕ) (final : List Local) where
   pub scoped_does : {A : Type 0} {quiet : Bool} {Q : A → ℕ → ℕ → Type 0} {rule : Rule A} → Does quiet Q rule → Does true Q (scoped rule)
   scoped_does {A} {quiet} {Q} {rule} p = record {
     by = λ h ok.
-        go h ok (rule (enter h)) (p.by (enter h) (record { named = ok.named; within = within_more h.names.depth (h.names.depth + 1) h.names.declared (omega arith) ok.within }));
+        go h ok (rule (enter h)) (p.by (enter h) (record {
+          named = ok.named;
+          within = within_more h.names.depth (h.names.depth + 1) h.names.declared
+              (omega arith) ok.within;
+        }));
   }
     where
       go : (h : Here) → Sound params h → (r : Reply A) → Leads quiet (enter h) Q r → Leads true h Q (followed r (λ a. change leave >> give a))
@@ -255,7 +283,8 @@ module _ (params : ℕ) (final : List Local) where
 
   pub labelling_does : {A : Type 0} {quiet : Bool} {Q : A → ℕ → ℕ → Type 0} {rule : Rule A} → Does quiet Q rule → Does quiet Q (labelling rule)
   labelling_does {A} {quiet} {Q} {rule} p = record {
-    by = λ h ok. go h (rule (record h { cases = []; default = false })) (p.by (record h { cases = []; default = false }) (record { named = ok.named; within = ok.within }));
+    by = λ h ok. go h (rule (record h { cases = []; default = false }))
+        (p.by (record h { cases = []; default = false }) (record { named = ok.named; within = ok.within }));
   }
     where
       go : (h : Here) (r : Reply A) → Leads quiet (record h { cases = []; default = false }) Q r

@@ -111,7 +111,8 @@ abbrev IsInitial : Extent → Scope → Option TypedExpr → Type 0
 IsInitial extent s None = ⊤
 IsInitial extent s (Some e) = (is_array extent ≡ false) × IsValue s e
 
-local_value_keeps : (ty : Ty) (extent : Extent) (init : Option Initialiser) (s : Scope) (o : Here) → Keeps s o (IsInitial extent s) (rules.local_value ty extent init)
+local_value_keeps : (ty : Ty) (extent : Extent) (init : Option Initialiser) (s : Scope) (o : Here)
+    → Keeps s o (IsInitial extent s) (rules.local_value ty extent init)
 local_value_keeps ty extent None s o = gives None tt
 local_value_keeps ty extents.Scalar (Some (initialisers.Value e)) s o =
     and (value_keeps e s o) (λ v good. gives (Some (converted ty v)) (refl, converted_value s ty v good))
@@ -145,7 +146,8 @@ module _ (params : ℕ) (final : List Local) where
   AreSectionsOf xs n m = AreAll (sections_from (map section_of xs)) n m
 
   done : (x : TypedStmt-F TypedStmt Section) (n m : ℕ)
-      → IsOne (stmt_layer (map-TypedStmt TypedStmt Section tree.Stmt (tree.Sections → tree.Sections) stmt_of section_of x)) n m → IsStatement (roll-TypedStmt x) n m
+      → IsOne (stmt_layer (map-TypedStmt TypedStmt Section tree.Stmt (tree.Sections → tree.Sections) stmt_of section_of x)) n m → IsStatement
+      (roll-TypedStmt x) n m
   done x n m ok = subst (λ t. IsOne t n m) (sym (fold-roll-TypedStmt tree.Stmt (tree.Sections → tree.Sections) stmt_layer section_layer x)) ok
 
   -- a tree that is good behind a statement is so at the place that the statement tells
@@ -191,20 +193,28 @@ module _ (params : ℕ) (final : List Local) where
   -- the state with one more local, and its name
   abbrev with_local : List ℕ → Ty → Bool → Extent → Here → Here
   with_local name ty fixed extent h =
-      bind name (bindings.Local (length h.locals) ty fixed extent) (record h { locals = h.locals ++ record { ty = ty; length = rules.length_in extent; name = name } ∷ [] })
+      bind name (bindings.Local (length h.locals) ty fixed extent) (record h
+      { locals = h.locals ++ record { ty = ty; length = rules.length_in extent; name = name } ∷ [] })
 
-  goes_local : (name : List ℕ) (ty : Ty) (fixed : Bool) (extent : Extent) → HasLength extent → (h : Here) → Sound params h → Goes params false h (with_local name ty fixed extent h)
+  goes_local : (name : List ℕ) (ty : Ty) (fixed : Bool) (extent : Extent) → HasLength extent → (h : Here) → Sound params h
+      → Goes params false h (with_local name ty fixed extent h)
   goes_local name ty fixed extent known h ok =
       let local : Local = record { ty = ty; length = rules.length_in extent; name = name } in
       let longer = length_push h.locals local in
       record {
         named = (
           (omega (arith, longer), ap is_some_array (slice_next h.locals [] local) ∙ known),
-          all_wider params h.locals (h.locals ++ local ∷ []) (length (h.locals ++ local ∷ [])) (local ∷ [], refl) (omega (arith, longer)) h.names.declared ok.named,
+          all_wider params h.locals (h.locals ++ local ∷ []) (length (h.locals ++ local ∷ [])) (local ∷ [], refl)
+              (omega (arith, longer)) h.names.declared ok.named,
         );
         within = (omega arith, ok.within);
         depth = refl;
-        outside = outer_more h.names.depth (record { name = name; depth = h.names.depth; stands_for = bindings.Local (length h.locals) ty fixed extent }) h.names.declared refl;
+        outside = outer_more h.names.depth (record {
+          name = name;
+          depth = h.names.depth;
+          stands_for = bindings.Local
+              (length h.locals) ty fixed extent;
+        }) h.names.declared refl;
         front = (local ∷ [], refl);
         table = omega arith;
         still = λ q. absurd cc;
@@ -220,11 +230,14 @@ module _ (params : ℕ) (final : List Local) where
         let local : Local = record { ty = ty; length = rules.length_in extent; name = name } in
         let g = with_local name ty fixed extent h in
         let x = goes_local name ty fixed extent known h ok in
-        led params final (λ t n1 n2. (n1 ≡ suc (length h.locals)) → is_some_array (slice_get final (length h.locals)) ≡ is_array extent → IsStatement t (length h.locals) n2) IsStatement h g x _ ((value_done ty extent init (length h.locals)).by g (record { named = x.named; within = x.within }))
+        led params final (λ t n1 n2. (n1 ≡ suc (length h.locals)) → is_some_array
+        (slice_get final (length h.locals)) ≡ is_array extent → IsStatement t (length h.locals) n2) IsStatement h g x _
+        ((value_done ty extent init (length h.locals)).by g (record { named = x.named; within = x.within }))
         (λ t k y front good.
         let whole : IsFront (h.locals ++ local ∷ []) final = front_then (h.locals ++ local ∷ []) k.locals final y.front front in
         let there : slice_get final (length h.locals) ≡ Some local =
-        ap (λ l. slice_get l (length h.locals)) whole.1 ∙ ap (λ l. slice_get l (length h.locals)) (append_one h.locals local whole.0) ∙ slice_next h.locals whole.0 local in
+        ap (λ l. slice_get l (length h.locals)) whole.1 ∙ ap (λ l. slice_get l (length h.locals)) (append_one h.locals local whole.0)
+        ∙ slice_next h.locals whole.0 local in
         good (omega (arith, length_push h.locals local)) (ap is_some_array there ∙ known));
   }
     where
@@ -292,7 +305,8 @@ module _ (params : ℕ) (final : List Local) where
         followed_by params final (declarations_do b.declarations) (λ ds. followed_by params final (loud params final (statements_do a b.statements ok)) (λ ss.
         ends params final (ds ++ ss) (λ k m qs n q. sequence_more ds ss n m k q qs)));
     sections = λ a ty.
-        followed_by params final (declarations_do b.declarations) (λ ds. followed_by params final (loud params final (sections_do a ty b.statements ok)) (λ ss.
+        followed_by params final (declarations_do b.declarations) (λ ds. followed_by params final
+        (loud params final (sections_do a ty b.statements ok)) (λ ss.
         ends params final (map (λ t. rules.section (rules.unlabelled t)) ds ++ ss) (λ k m qs n q. sections_more ds ss n m k q qs)));
   }
 
@@ -341,17 +355,20 @@ module _ (params : ℕ) (final : List Local) where
       after_good params final IsValued (value_keeps c) (λ v. followed_by params final (ok.stmt (rules.in_loop a)) (λ t. ends params final _ (λ m n q good.
       done (TypedStmt-F.While v.expr t) n m ((value_of (scope params final n) v good, q.0), q.1))))
   stmt_does (Stmt-F.Do l s c) ok a =
-      then_outside params final (λ (t : TypedStmt) (v : Valued). roll-TypedStmt (TypedStmt-F.Do t v.expr)) IsValued (ok.stmt (rules.in_loop a)) (value_keeps c)
+      then_outside params final (λ (t : TypedStmt) (v : Valued). roll-TypedStmt (TypedStmt-F.Do t v.expr)) IsValued (ok.stmt (rules.in_loop a))
+      (value_keeps c)
       (λ t v n m q good. done (TypedStmt-F.Do t v.expr) n m ((q.0, value_of (scope params final n) v good), q.1))
   stmt_does (Stmt-F.For l first c step s) ok a =
-      after_good params final IsHead (for_head_keeps first c step) (λ h. followed_by params final (ok.stmt (rules.in_loop a)) (λ t. ends params final _ (λ m n q good.
+      after_good params final IsHead (for_head_keeps first c step) (λ h. followed_by params final (ok.stmt (rules.in_loop a))
+      (λ t. ends params final _ (λ m n q good.
       done (TypedStmt-F.For h.first h.condition h.step t) n m ((good.0, good.1, good.2, q.0), q.1))))
   stmt_does (Stmt-F.Case l e s) ok a = refused params final l kinds.CaseOutside
   stmt_does (Stmt-F.Default l s) ok a = refused params final l kinds.CaseOutside
   stmt_does (Stmt-F.Break l) ok a =
       after_fact params final Any (λ s o. tests a.breaks l kinds.BreakOutside) (λ u any. ends params final _ (λ n. done TypedStmt-F.Break n n (tt, refl)))
   stmt_does (Stmt-F.Continue l) ok a =
-      after_fact params final Any (λ s o. tests a.continues l kinds.ContinueOutside) (λ u any. ends params final _ (λ n. done TypedStmt-F.Continue n n (tt, refl)))
+      after_fact params final Any (λ s o. tests a.continues l kinds.ContinueOutside)
+      (λ u any. ends params final _ (λ n. done TypedStmt-F.Continue n n (tt, refl)))
   stmt_does (Stmt-F.Return l None) ok a = ends params final _ (λ n. done (TypedStmt-F.Return None) n n (tt, refl))
   stmt_does (Stmt-F.Return l (Some e)) ok a = returned_does l a.result e
 
@@ -379,7 +396,8 @@ module _ (params : ℕ) (final : List Local) where
   body_does (Stmt-F.Continue l) ok a ty = plain_body (Stmt-F.Continue l) ok a
   body_does (Stmt-F.Return l e) ok a ty = plain_body (Stmt-F.Return l e) ok a
 
-  plain_item : (x : Stmt-F Ruled Blocked) → StmtParts x → (a : Around) → Does params final true IsLabelled (rules.stmt_layer x a >>= λ t. give (rules.unlabelled t))
+  plain_item : (x : Stmt-F Ruled Blocked) → StmtParts x → (a : Around)
+      → Does params final true IsLabelled (rules.stmt_layer x a >>= λ t. give (rules.unlabelled t))
   plain_item x ok a = followed_by params final (stmt_does x ok a) (λ t. ends params final (rules.unlabelled t) (λ m n q. q))
 
   item_does : (x : Stmt-F Ruled Blocked) → StmtParts x → (a : Around) (ty : Ty) → Does params final true IsLabelled (rules.item_layer x a ty)
@@ -395,7 +413,8 @@ module _ (params : ℕ) (final : List Local) where
   item_does (Stmt-F.Case l e s) ok a ty =
       after_fact params final Any (constant_word_keeps e) (λ w a0.
       after_fact params final Any (new_case_keeps l (convert ty w)) (λ u a1.
-      followed_by params final (ok.item a ty) (λ x. ends params final (record { labels = labels.Case (record { 0 = convert ty w }) ∷ x.labels; stmt = x.stmt }) (λ m n q. q))))
+      followed_by params final (ok.item a ty) (λ x. ends params final (record
+      { labels = labels.Case (record { 0 = convert ty w }) ∷ x.labels; stmt = x.stmt }) (λ m n q. q))))
   item_does (Stmt-F.Default l s) ok a ty =
       after_fact params final Any (new_default_keeps l) (λ u a1.
       followed_by params final (ok.item a ty) (λ x. ends params final (record { labels = labels.Default ∷ x.labels; stmt = x.stmt }) (λ m n q. q)))
@@ -459,4 +478,5 @@ module _ (params : ℕ) (final : List Local) where
 
   pub blocking_does : (b : Block) → BlockedDoes (rules.blocking b)
   blocking_does b =
-      ind-Block GoodStmt GoodBlock (λ x y is. subst (λ z. GoodStmt (roll-Stmt z)) is (stmt_step y)) (λ x y is. subst (λ z. GoodBlock (roll-Block z)) is (block_step y)) b
+      ind-Block GoodStmt GoodBlock (λ x y is. subst (λ z. GoodStmt (roll-Stmt z)) is (stmt_step y))
+      (λ x y is. subst (λ z. GoodBlock (roll-Block z)) is (block_step y)) b

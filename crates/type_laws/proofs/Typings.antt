@@ -33,32 +33,42 @@ module _ (s : Scope) (o : Here) where
   -- ## One layer
 
   expr_by : (x : Expr-F Expr Specifier Enumerator Specifiers)
-      → Parts s o (map-Expr Expr Specifier Enumerator Specifiers Typing (Rule Part) (ℤ → Rule ℤ) (Site → Rule Specified) rules.typing rules.reading rules.enumerating rules.specifying x) → Good (roll-Expr x)
+      → Parts s o (map-Expr Expr Specifier Enumerator Specifiers Typing (Rule Part) (ℤ → Rule ℤ)
+      (Site → Rule Specified) rules.typing rules.reading rules.enumerating rules.specifying x) → Good (roll-Expr x)
   expr_by x ok =
       subst (λ t. AreKept s o t)
-      (sym (fold-roll-Expr Typing (Rule Part) (ℤ → Rule ℤ) (Site → Rule Specified) rules.expression rules.specifier rules.enumeration_constant rules.specifiers x))
+      (sym (fold-roll-Expr Typing (Rule Part) (ℤ → Rule ℤ)
+      (Site → Rule Specified) rules.expression rules.specifier rules.enumeration_constant rules.specifiers x))
       (expression_keeps s o _ ok)
 
   part_by : (x : Specifier-F Expr Specifier Enumerator Specifiers)
-      → SpecifierParts s o (map-Specifier Expr Specifier Enumerator Specifiers Typing (Rule Part) (ℤ → Rule ℤ) (Site → Rule Specified) rules.typing rules.reading rules.enumerating rules.specifying x) → GoodPart (roll-Specifier x)
+      → SpecifierParts s o (map-Specifier Expr Specifier Enumerator Specifiers Typing (Rule Part) (ℤ → Rule ℤ)
+      (Site → Rule Specified) rules.typing rules.reading rules.enumerating rules.specifying x) → GoodPart (roll-Specifier x)
   part_by x ok =
       subst (λ (r : Rule Part). Keeps s o Any r)
-      (sym (fold-roll-Specifier Typing (Rule Part) (ℤ → Rule ℤ) (Site → Rule Specified) rules.expression rules.specifier rules.enumeration_constant rules.specifiers x))
+      (sym (fold-roll-Specifier Typing (Rule Part) (ℤ → Rule ℤ)
+      (Site → Rule Specified) rules.expression rules.specifier rules.enumeration_constant rules.specifiers x))
       (specifier_keeps s o _ ok)
 
   number_by : (x : Enumerator-F Expr Specifier Enumerator Specifiers)
-      → IsValueKept s o (map-Enumerator Expr Specifier Enumerator Specifiers Typing (Rule Part) (ℤ → Rule ℤ) (Site → Rule Specified) rules.typing rules.reading rules.enumerating rules.specifying x).value → GoodNumber (roll-Enumerator x)
+      → IsValueKept s o (map-Enumerator Expr Specifier Enumerator Specifiers Typing (Rule Part) (ℤ → Rule ℤ)
+      (Site → Rule Specified) rules.typing rules.reading rules.enumerating rules.specifying x).value → GoodNumber (roll-Enumerator x)
   number_by x ok =
       subst (λ (r : ℤ → Rule ℤ). (next : ℤ) → Keeps s o Any (r next))
-      (sym (fold-roll-Enumerator Typing (Rule Part) (ℤ → Rule ℤ) (Site → Rule Specified) rules.expression rules.specifier rules.enumeration_constant rules.specifiers x))
-      (enumeration_constant_keeps s o (map-Enumerator Expr Specifier Enumerator Specifiers Typing (Rule Part) (ℤ → Rule ℤ) (Site → Rule Specified) rules.typing rules.reading rules.enumerating rules.specifying x) ok)
+      (sym (fold-roll-Enumerator Typing (Rule Part) (ℤ → Rule ℤ)
+      (Site → Rule Specified) rules.expression rules.specifier rules.enumeration_constant rules.specifiers x))
+      (enumeration_constant_keeps s o (map-Enumerator Expr Specifier Enumerator Specifiers Typing (Rule Part) (ℤ → Rule ℤ)
+      (Site → Rule Specified) rules.typing rules.reading rules.enumerating rules.specifying x) ok)
 
   sites_by : (x : Specifiers-F Expr Specifier Enumerator Specifiers)
-      → AllKeep s o Any (map-Specifiers Expr Specifier Enumerator Specifiers Typing (Rule Part) (ℤ → Rule ℤ) (Site → Rule Specified) rules.typing rules.reading rules.enumerating rules.specifying x).items → GoodSites (roll-Specifiers x)
+      → AllKeep s o Any (map-Specifiers Expr Specifier Enumerator Specifiers Typing (Rule Part) (ℤ → Rule ℤ)
+      (Site → Rule Specified) rules.typing rules.reading rules.enumerating rules.specifying x).items → GoodSites (roll-Specifiers x)
   sites_by x ok =
       subst (λ (r : Site → Rule Specified). (site : Site) → Keeps s o Any (r site))
-      (sym (fold-roll-Specifiers Typing (Rule Part) (ℤ → Rule ℤ) (Site → Rule Specified) rules.expression rules.specifier rules.enumeration_constant rules.specifiers x))
-      (specifiers_keep s o (map-Specifiers Expr Specifier Enumerator Specifiers Typing (Rule Part) (ℤ → Rule ℤ) (Site → Rule Specified) rules.typing rules.reading rules.enumerating rules.specifying x) ok)
+      (sym (fold-roll-Specifiers Typing (Rule Part) (ℤ → Rule ℤ)
+      (Site → Rule Specified) rules.expression rules.specifier rules.enumeration_constant rules.specifiers x))
+      (specifiers_keep s o (map-Specifiers Expr Specifier Enumerator Specifiers Typing (Rule Part) (ℤ → Rule ℤ)
+      (Site → Rule Specified) rules.typing rules.reading rules.enumerating rules.specifying x) ok)
 
   -- ## A layer whose parts are good
 
@@ -101,19 +111,23 @@ module _ (s : Scope) (o : Here) where
   expr_step (Expr-F.Assign l q a b) = expr_by (Expr-F.Assign l q a.0 b.0) (a.1, b.1)
   expr_step (Expr-F.Comma l a b) = expr_by (Expr-F.Comma l a.0 b.0) (a.1, b.1)
 
-  part_step : (y : Specifier-F E P N S) → GoodPart (roll-Specifier (map-Specifier E P N S Expr Specifier Enumerator Specifiers (λ e. e.0) (λ e. e.0) (λ e. e.0) (λ e. e.0) y))
+  part_step : (y : Specifier-F E P N S) → GoodPart (roll-Specifier (map-Specifier E P N S Expr Specifier Enumerator Specifiers (λ e. e.0) (λ e. e.0)
+      (λ e. e.0) (λ e. e.0) y))
   part_step (Specifier-F.Word l w) = part_by (Specifier-F.Word l w) tt
   part_step (Specifier-F.EnumTag l x) = part_by (Specifier-F.EnumTag l x) tt
   part_step (Specifier-F.Enum l x es) = part_by (Specifier-F.Enum l x (map (λ e. e.0) es)) (all_numbers es)
 
-  number_of : (name : Identifier) (v : Option E) → GoodNumber (roll-Enumerator (map-Enumerator E P N S Expr Specifier Enumerator Specifiers (λ e. e.0) (λ e. e.0) (λ e. e.0) (λ e. e.0) (record { name = name; value = v })))
+  number_of : (name : Identifier) (v : Option E) → GoodNumber (roll-Enumerator
+      (map-Enumerator E P N S Expr Specifier Enumerator Specifiers (λ e. e.0) (λ e. e.0) (λ e. e.0) (λ e. e.0) (record { name = name; value = v })))
   number_of name None = number_by (record { name = name; value = None }) tt
   number_of name (Some e) = number_by (record { name = name; value = Some e.0 }) e.1
 
-  number_step : (y : Enumerator-F E P N S) → GoodNumber (roll-Enumerator (map-Enumerator E P N S Expr Specifier Enumerator Specifiers (λ e. e.0) (λ e. e.0) (λ e. e.0) (λ e. e.0) y))
+  number_step : (y : Enumerator-F E P N S) → GoodNumber (roll-Enumerator
+      (map-Enumerator E P N S Expr Specifier Enumerator Specifiers (λ e. e.0) (λ e. e.0) (λ e. e.0) (λ e. e.0) y))
   number_step y = number_of y.name y.value
 
-  sites_step : (y : Specifiers-F E P N S) → GoodSites (roll-Specifiers (map-Specifiers E P N S Expr Specifier Enumerator Specifiers (λ e. e.0) (λ e. e.0) (λ e. e.0) (λ e. e.0) y))
+  sites_step : (y : Specifiers-F E P N S) → GoodSites (roll-Specifiers
+      (map-Specifiers E P N S Expr Specifier Enumerator Specifiers (λ e. e.0) (λ e. e.0) (λ e. e.0) (λ e. e.0) y))
   sites_step y = sites_by (record { line = y.line; items = map (λ p. p.0) y.items }) (all_parts y.items)
 
   -- ## The trees
