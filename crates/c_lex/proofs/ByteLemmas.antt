@@ -12,7 +12,8 @@ use Rattle.c_lex.specs.Bytes.{between, class_of, in_word, in_run, radix, value_b
 use Rattle.c_lex.specs.Spelling.{same, named}
 use Rattle.c_lex.specs.Pieces.{has_close}
 use Rattle.c_lex.specs.Machine.{tail_by, tail_of}
-use Rattle.c_lex.proofs.Choice.{choose, if_false, and_true, or_false, or_both}
+use Rattle.std.proofs.lemmas.Bool.{and_parts, or_parts, or_from}
+use Rattle.list_laws.proofs.Tests.{choose, if_false}
 use Rattle.c_lex.proofs.Fine.{ends_star}
 
 -- the byte of a class that has only one
@@ -32,7 +33,7 @@ of_class c =
     choose (OfClass c) (c == 32) _ _ (λ _. tt) (λ _. choose (OfClass c) (c == 9) _ _ (λ _. tt) (λ _. choose (OfClass c) (c == 11) _ _ (λ _. tt) (λ _. choose (OfClass c) (c == 12) _ _ (λ _. tt)
     (λ _. choose (OfClass c) (c == 13) _ _ (λ _. tt) (λ _. choose (OfClass c) (c == 10) _ _ (λ e. eqb-true c 10 e)
     (λ _. choose (OfClass c) (between 97 122 c) _ _ (λ _. tt) (λ _. choose (OfClass c) (between 65 90 c) _ _ (λ _. tt) (λ _. choose (OfClass c) (c == 95) _ _ (λ _. tt)
-    (λ _. choose (OfClass c) (c == 48) _ _ (λ e. eqb-true c 48 e) (λ _. choose (OfClass c) (between 49 57 c) _ _ (λ e. leb-true 49 c (and_true _ _ e).0)
+    (λ _. choose (OfClass c) (c == 48) _ _ (λ e. eqb-true c 48 e) (λ _. choose (OfClass c) (between 49 57 c) _ _ (λ e. leb-true 49 c (and_parts _ _ e).0)
     (λ _. choose (OfClass c) (c == 35) _ _ (λ e. eqb-true c 35 e) (λ _. choose (OfClass c) (c == 34) _ _ (λ e. eqb-true c 34 e) (λ _. choose (OfClass c) (c == 39) _ _ (λ e. eqb-true c 39 e)
     (λ _. choose (OfClass c) (c == 47) _ _ (λ e. eqb-true c 47 e) (λ _. tt)))))))))))))))
 
@@ -63,7 +64,7 @@ TailIs k c tail.Inside = Unit {0}
 TailIs k c tail.Outside = (in_word k || c == 46) ≡ false
 
 point_tail : (k : Class) (c : ℕ) → in_word k ≡ false → TailIs k c (if c == 46 then tail.Inside else tail.Outside)
-point_tail k c h = choose (TailIs k c) (c == 46) _ _ (λ _. tt) (λ e. or_both _ _ h e)
+point_tail k c h = choose (TailIs k c) (c == 46) _ _ (λ _. tt) (λ e. or_from _ _ h e)
 
 pub tail_is : (k : Class) (c : ℕ) → TailIs k c (tail_by k c)
 tail_is class.Letter c = choose (TailIs class.Letter c) (is_u c) _ _ (λ e. e) (λ _. choose (TailIs class.Letter c) (is_l c) _ _ (λ e. e) (λ _. tt))
@@ -166,19 +167,19 @@ star_last (a ∷ []) e = ([], ap (λ z. z ∷ []) (eqb-true a 42 e))
 star_last (a ∷ b ∷ vs) e = let r = star_last (b ∷ vs) e in (a ∷ r.0, ap (λ z. a ∷ z) r.1)
 
 pub has_close_more : (vs : List ℕ) (c : ℕ) → has_close vs ≡ false → (ends_star vs && c == 47) ≡ false → has_close (vs ++ c ∷ []) ≡ false
-has_close_more [] c h n = or_both _ _ (go (c == 42)) refl
+has_close_more [] c h n = or_from _ _ (go (c == 42)) refl
   where
     go : (b : Bool) → (b && false) ≡ false
     go true = refl
     go false = refl
-has_close_more (a ∷ []) c h n = or_both _ _ n (has_close_more [] c refl refl)
-has_close_more (a ∷ b ∷ vs) c h n = let k = or_false ((a == 42) && (b == 47)) (has_close (b ∷ vs)) h in or_both _ _ k.0 (has_close_more (b ∷ vs) c k.1 n)
+has_close_more (a ∷ []) c h n = or_from _ _ n (has_close_more [] c refl refl)
+has_close_more (a ∷ b ∷ vs) c h n = let k = or_parts ((a == 42) && (b == 47)) (has_close (b ∷ vs)) h in or_from _ _ k.0 (has_close_more (b ∷ vs) c k.1 n)
 
 pub has_close_front : (vs : List ℕ) (c : ℕ) → has_close (vs ++ c ∷ []) ≡ false → (has_close vs ≡ false) × ((ends_star vs && c == 47) ≡ false)
 has_close_front [] c h = (refl, refl)
-has_close_front (a ∷ []) c h = let k = or_false ((a == 42) && (c == 47)) (has_close (c ∷ [])) h in (or_both _ _ (go (a == 42)) refl, k.0)
+has_close_front (a ∷ []) c h = let k = or_parts ((a == 42) && (c == 47)) (has_close (c ∷ [])) h in (or_from _ _ (go (a == 42)) refl, k.0)
   where
     go : (b : Bool) → (b && false) ≡ false
     go true = refl
     go false = refl
-has_close_front (a ∷ b ∷ vs) c h = let k = or_false ((a == 42) && (b == 47)) (has_close (b ∷ vs ++ c ∷ [])) h in let r = has_close_front (b ∷ vs) c k.1 in (or_both _ _ k.0 r.0, r.1)
+has_close_front (a ∷ b ∷ vs) c h = let k = or_parts ((a == 42) && (b == 47)) (has_close (b ∷ vs ++ c ∷ [])) h in let r = has_close_front (b ∷ vs) c k.1 in (or_from _ _ k.0 r.0, r.1)

@@ -9,7 +9,8 @@ use Rattle.c_lex.specs.Bytes.{digit_of}
 use Rattle.c_lex.specs.Pieces.{escape_of, IsOctalEscape, first_octal, next_octal, IsHexEscape, first_hex_digit, next_hex_digit, is_plain, IsQuoted, plain_byte, simple_escape, octal_escape, hex_escape, is_code, IsPiece, character}
 use Rattle.c_lex.specs.Text.{Cause, bad_char}
 use Rattle.c_lex.specs.Machine.{quote_byte, simple, octal_or_simple, escape_byte, hex_escape_byte, body_byte, octal_byte, hex_byte}
-use Rattle.c_lex.proofs.Choice.{choose, and_true, or_false}
+use Rattle.std.proofs.lemmas.Bool.{and_parts, or_parts}
+use Rattle.list_laws.proofs.Tests.{choose}
 use Rattle.c_lex.proofs.Fine.{Fine, Steps, StepGood}
 
 -- the bytes begin with `'`
@@ -37,7 +38,7 @@ quoted_opens (octal_escape o) = octal_opens o
 quoted_opens (hex_escape o) = hex_opens o
 
 plain_test : (c : ℕ) → (c == 92) ≡ false → (c == 39 || c == 10) ≡ false → is_plain c ≡ true
-plain_test c e f = let k = or_false (c == 39) (c == 10) f in rw (k.0, e, k.1) refl
+plain_test c e f = let k = or_parts (c == 39) (c == 10) f in rw (k.0, e, k.1) refl
 
 pub quote_good : (w : Context) (us : List ℕ) (c : ℕ) → Fine w phase.Quote us → StepGood w phase.Quote us c (quote_byte c)
 quote_good w us c (h, f) =
@@ -78,7 +79,7 @@ body_good w v us c (h, q) = body w v us c h q
 pub octal_good : (w : Context) (n v : ℕ) (us : List ℕ) (c : ℕ) → Fine w (phase.OctalDigits n v) us → (o : Option ℕ) → digit_of Octal c ≡ o → StepGood w (phase.OctalDigits n v) us c (octal_byte n v c o)
 octal_good w n v us c (h, i) (Some d) q =
     choose (StepGood w (phase.OctalDigits n v) us c) (nat_lt n 3 && nat_lt (v * 8 + d) 256) _ _
-    (λ e. let k = and_true (nat_lt n 3) (nat_lt (v * 8 + d) 256) e in (h, next_octal c d i (ltb-true _ _ k.0) q (ltb-true _ _ k.1)))
+    (λ e. let k = and_parts (nat_lt n 3) (nat_lt (v * 8 + d) 256) e in (h, next_octal c d i (ltb-true _ _ k.0) q (ltb-true _ _ k.1)))
     (λ _. bad w us (Some c) h (octal_opens i))
 octal_good w n v us c (h, i) None q = body w v us c h (octal_escape i)
 

@@ -5,7 +5,7 @@ use Rattle.c_lex.specs.declared.phase.Place.{Place}
 use Rattle.c_lex.specs.declared.phase.Phase.{Phase}
 use Rattle.c_lex.specs.declared.fault.LexKind.{LexKind}
 use Rattle.c_lex.specs.Machine.{enter, step, close, read, run, follow, entered, Gets, first_byte, next_byte}
-use Rattle.c_lex.proofs.Choice.{onto}
+use Rattle.list_laws.proofs.Elements.{onto}
 
 pub gets_run : {w : Context} (p : Place) {us : List ℕ} {ph : Phase} → Gets w us ph → (cs : List ℕ) → read (us ++ cs) w p ≡ run cs w p us ph
 gets_run {w} p (first_byte c e) cs = ap (λ x. entered x w p c cs (run cs)) e

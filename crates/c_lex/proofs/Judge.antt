@@ -11,7 +11,7 @@ use Rattle.c_lex.specs.declared.fault.LexKind.TheVariants.{BadByte, Directive, O
 use Rattle.c_lex.specs.Pieces.{is_code, may_end, IsPiece, longer}
 use Rattle.c_lex.specs.Text.{past, after, tokens_of, Pieces, ending, then_piece, AtEnd, Cause, directive, told_line, Breaks, IsOpenComment}
 use Rattle.c_lex.specs.Machine.{enter, step, close, Reading, Tokens, Fault, before, ended, entered, finished, closed, follow, run}
-use Rattle.c_lex.proofs.Choice.{onto}
+use Rattle.list_laws.proofs.Elements.{onto}
 use Rattle.c_lex.proofs.Fine.{Fine, EnterGood, SeamGood, StepGood, CloseGood}
 use Rattle.c_lex.specs.Machine.{Gets, first_byte, next_byte}
 use Rattle.c_lex.proofs.Phases.{enter_good, step_good, close_good, alive}

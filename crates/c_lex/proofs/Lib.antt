@@ -1,4 +1,3 @@
-pub mod Choice
 pub mod Fine
 pub mod ByteLemmas
 pub mod Gets

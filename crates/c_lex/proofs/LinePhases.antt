@@ -21,7 +21,9 @@ use Rattle.c_lex.specs.Spelling.{punct_spelling, puncts, punct_named, header_spe
 use Rattle.c_lex.specs.Pieces.{letter, first_decimal, has_close, is_code, may_end, IsPiece, blank, feed, comment, hash, include_word, header, marker, punctuator, longer}
 use Rattle.c_lex.specs.Text.{Cause, no_piece, quote, open_comment, directive, IsOpenComment}
 use Rattle.c_lex.specs.Machine.{sign, decimal, enter_code, enter_fresh, enter_hash, enter_include, enter_closed, enter, goes, stops, slash, comment_byte, spelled, header_byte, marker_byte, slash_piece}
-use Rattle.c_lex.proofs.Choice.{choose, and_true, and_false, not_true, onto}
+use Rattle.std.proofs.lemmas.Bool.{and_parts, not-true}
+use Rattle.list_laws.proofs.Tests.{choose, and_false}
+use Rattle.list_laws.proofs.Elements.{onto}
 use Rattle.c_lex.proofs.Fine.{ends_star, Fine, EnterGood, SeamGood, CloseGood, StepGood}
 use Rattle.c_lex.proofs.ByteLemmas.{byte_of, class_quote, class_slash, not_byte, named_spells, feeds_keep, ends_star_more, star_last, has_close_more}
 
@@ -137,7 +139,7 @@ slash_good w us c f =
     choose (StepGood w phase.Slash us c) (c == 42) _ _
     (λ e. ([], ap (λ z. z ++ c ∷ []) f ∙ ap (λ z. 47 ∷ z ∷ []) (eqb-true c 42 e), refl, refl, λ _. ap feeds (ap (λ z. z ++ c ∷ []) f ∙ ap (λ z. 47 ∷ z ∷ []) (eqb-true c 42 e))))
     (λ n. choose (StepGood w phase.Slash us c) (is_code w && c == 61) _ _
-    (λ e. let k = and_true (is_code w) (c == 61) e in let s : us ++ c ∷ [] ≡ 47 ∷ 61 ∷ [] = ap (λ z. z ++ c ∷ []) f ∙ ap (λ z. 47 ∷ z ∷ []) (eqb-true c 61 k.1) in (k.0, s, ap (λ z. same z (47 ∷ [])) s, 47, 61 ∷ [], s))
+    (λ e. let k = and_parts (is_code w) (c == 61) e in let s : us ++ c ∷ [] ≡ 47 ∷ 61 ∷ [] = ap (λ z. z ++ c ∷ []) f ∙ ap (λ z. 47 ∷ z ∷ []) (eqb-true c 61 k.1) in (k.0, s, ap (λ z. same z (47 ∷ [])) s, 47, 61 ∷ [], s))
     (λ m. slash_code w us c f n m (is_code w) refl))
 
 slash_not_open : (us : List ℕ) → us ≡ 47 ∷ [] → IsOpenComment us → ⊥
@@ -157,9 +159,9 @@ comment_end w us vs f h s n c e =
 pub comment_good : (w : Context) (star : Bool) (us : List ℕ) (c : ℕ) → Fine w (phase.Comment star) us → StepGood w (phase.Comment star) us c (comment_byte w star c)
 comment_good w star us c (vs, f, h, s, n) =
     choose (StepGood w (phase.Comment star) us c) (star && c == 47) _ _
-    (λ e. let k = and_true star (c == 47) e in (comment_end w us vs f h (s ∙ k.0) n c (eqb-true c 47 k.1), λ _. refl))
+    (λ e. let k = and_parts star (c == 47) e in (comment_end w us vs f h (s ∙ k.0) n c (eqb-true c 47 k.1), λ _. refl))
     (λ m. choose (StepGood w (phase.Comment star) us c) (not (is_code w) && c == 10) _ _
-    (λ e. directive_byte w us c (not_true _ (and_true (not (is_code w)) (c == 10) e).0))
+    (λ e. directive_byte w us c (not-true _ (and_parts (not (is_code w)) (c == 10) e).0))
     (λ q. (vs ++ c ∷ [], ap (λ z. z ++ c ∷ []) f, has_close_more vs c h (ap (λ z. z && c == 47) s ∙ m), ends_star_more vs c, λ r. feeds_keep us c (n r) (and_false _ _ q (ap not r)))))
 
 pub dropped : (us vs : List ℕ) → drop (length us) (us ++ vs) ≡ vs
@@ -199,7 +201,7 @@ pub header_good : (w : Context) (h : Header) (us : List ℕ) (c : ℕ) → Fine 
 header_good w Stdlib us c f = header_spelled w Stdlib us c f
 header_good w Stdio us c f =
     choose (StepGood w (phase.HeaderName Stdio) us c) (length us == 4 && c == 108) _ _
-    (λ e. let k = and_true (length us == 4) (c == 108) e in
+    (λ e. let k = and_parts (length us == 4) (c == 108) e in
     let s : us ≡ codes "<std" = sym (taken us (f.2 ∷ f.3)) ∙ ap (take (length us)) (sym f.4) ∙ ap (λ z. take z (codes "<stdio.h>")) (eqb-true (length us) 4 k.0) in
     (f.0, f.1, 105, codes "b.h>", ap (λ z. (z ++ 108 ∷ []) ++ 105 ∷ codes "b.h>") (sym s) ∙ ap (λ z. (us ++ z ∷ []) ++ 105 ∷ codes "b.h>") (sym (eqb-true c 108 k.1))))
     (λ _. header_spelled w Stdio us c f)

@@ -10,7 +10,7 @@ use Rattle.c_lex.specs.declared.phase.Piece.TheVariants as piece
 use Rattle.c_lex.specs.Bytes.{between, class_of, in_word}
 use Rattle.c_lex.specs.Pieces.{IsIdentifier, letter, longer_name, IsPiece, blank, feed, comment, hash, include_word, header, marker, name, word, number, character, punctuator}
 use Rattle.std.proofs.lemmas.Bool.{eqb-true, leb-true, le-leb, and_parts, and_from}
-use Rattle.c_lex.proofs.Choice.{choose}
+use Rattle.list_laws.proofs.Tests.{choose}
 
 or_left : (a b : Bool) → a ≡ true → (a || b) ≡ true
 or_left a b e = rw e refl

@@ -11,7 +11,8 @@ use Rattle.c_lex.specs.Spelling.{word_spelling, words, word_named, is_left_out, 
 use Rattle.c_lex.specs.Pieces.{IsIdentifier, longer_name, is_code, IsPiece, name, word, punctuator}
 use Rattle.c_lex.specs.Text.{left_out, long_name}
 use Rattle.c_lex.specs.Machine.{name_byte, name_piece, sign_byte}
-use Rattle.c_lex.proofs.Choice.{choose, or_both}
+use Rattle.std.proofs.lemmas.Bool.{or_from}
+use Rattle.list_laws.proofs.Tests.{choose}
 use Rattle.c_lex.proofs.Fine.{Fine, SeamGood, CloseGood, StepGood}
 use Rattle.c_lex.proofs.ByteLemmas.{named_spells}
 use Rattle.c_lex.proofs.LinePhases.{punct_spells}
@@ -62,7 +63,7 @@ sign_good w m us c (h, e, s, a, vs, f) = go (punct_named (punct_spelling m ++ c 
   where
     go : (o : Option Punct) → punct_named (us ++ c ∷ []) ≡ o → StepGood w (phase.Punct m) us c (sign_byte o)
     go (Some n) q = (h, punct_spells (us ++ c ∷ []) n q, subst (λ z. same (z ++ c ∷ []) (47 ∷ []) ≡ false) (sym f) (not_single a vs c), a, vs ++ c ∷ [], ap (λ z. z ++ c ∷ []) f)
-    go None q = or_both _ _ (ap is_some q) (single_and us c s)
+    go None q = or_from _ _ (ap is_some q) (single_and us c s)
 
 pub sign_close : (w : Context) (m : Punct) (us : List ℕ) → Fine w (phase.Punct m) us → IsPiece w (piece.Punct m) us
 sign_close w m us (h, e, s, a, vs, f) = subst (λ z. IsPiece w (piece.Punct m) z) (sym e) (punctuator h m)

@@ -17,7 +17,7 @@ use Rattle.c_lex.specs.Bytes.{class_of, is_digit, radix, digit_of, is_x}
 use Rattle.c_lex.specs.Pieces.{IsDigits, zero_digit, first_decimal, first_hex, next_digit, IsInteger, plain, with_u, with_l, integer_type, is_code, IsPiece, number}
 use Rattle.c_lex.specs.Text.{Cause, too_big, bad_number}
 use Rattle.c_lex.specs.Machine.{tail_of, enter_code, enter_fresh, enter, suffix, digit_byte, zero_byte, hex_mark_byte, step, goes, decimal}
-use Rattle.c_lex.proofs.Choice.{choose, if_true, if_false}
+use Rattle.list_laws.proofs.Tests.{choose, if_true, if_false}
 use Rattle.c_lex.proofs.Fine.{Numeric, Fine, Steps, StepGood}
 use Rattle.c_lex.proofs.ByteLemmas.{TailIs, tail_is, x_no_octal}
 use Rattle.c_lex.specs.Machine.{Gets, first_byte, next_byte}

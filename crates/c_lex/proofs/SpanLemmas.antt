@@ -18,7 +18,7 @@ use Rattle.c_lex.specs.Pieces.{IsPiece, blank, feed, comment, hash, include_word
 use Rattle.c_lex.specs.Text.{past, after, token, tokens_of, Pieces, ending, then_piece, AtEnd, Breaks, told_line, IsText}
 use Rattle.c_lex.specs.Machine.{Gets, first_byte, next_byte}
 use Rattle.c_lex.specs.Spans.{IsLexeme, IsSpan, AreSpans}
-use Rattle.c_lex.proofs.Choice.{choose}
+use Rattle.list_laws.proofs.Tests.{choose}
 use Rattle.c_lex.proofs.ByteLemmas.{byte_of, feeds_more}
 use Rattle.c_lex.proofs.LinePhases.{dropped, taken}
 use Rattle.c_lex.proofs.Spells.{spelled}

@@ -22,7 +22,9 @@ use Rattle.c_lex.specs.Bytes.{class_of, is_digit, in_run, digit_of, is_u, is_l, 
 use Rattle.c_lex.specs.Spelling.{word_spelling, word_named, is_left_out, punct_spelling, punct_named, same, header_spelling, include_spelling}
 use Rattle.c_lex.specs.Pieces.{IsIdentifier, letter, longer_name, IsInteger, plain, with_u, with_l, integer_type, escape_of, IsOctalEscape, first_octal, next_octal, IsHexEscape, first_hex_digit, next_hex_digit, is_plain, IsQuoted, plain_byte, simple_escape, octal_escape, hex_escape, has_close, IsComment, is_code, may_end, IsPiece, blank, feed, comment, hash, include_word, header, marker, name, word, number, character, punctuator, longer}
 use Rattle.c_lex.specs.Machine.{tail_of, enter_code, enter_fresh, enter_hash, enter_include, enter_closed, enter, goes, stops, slash, comment_byte, suffix, digit_byte, quote_byte, simple, octal_or_simple, hex_escape_byte, octal_byte, hex_byte, sign_byte, step, name_piece, slash_piece, close}
-use Rattle.c_lex.proofs.Choice.{choose, if_true, if_false, or_false, not_true, not_false, onto}
+use Rattle.std.proofs.lemmas.Bool.{or_parts, not-true, not-false}
+use Rattle.list_laws.proofs.Tests.{choose, if_true, if_false}
+use Rattle.list_laws.proofs.Elements.{onto}
 use Rattle.c_lex.proofs.Fine.{ends_star}
 use Rattle.c_lex.proofs.ByteLemmas.{outside, no_digit, u_no_digit, l_no_digit, run_no_x, feeds_more, ends_star_more, has_close_front}
 use Rattle.c_lex.specs.Machine.{Gets, first_byte, next_byte}
@@ -132,7 +134,7 @@ marked w [] us g n = subst (λ z. Gets w z phase.Marker) (sym (append-nil us)) g
 marked w (c ∷ cs) us g n = let k = feeds_front (c ∷ []) cs n in subst (λ z. Gets w z phase.Marker) (onto us c cs) (marked w cs (us ++ c ∷ []) (next_byte c g (if_false _ _ (no_feed c k.0))) k.1)
 
 marker_spelled : (p : Place) (c : ℕ) (us : List ℕ) → is_digit (class_of c) ≡ true → feeds us ≡ 0 → Spelled (Hash p) piece.Marker (c ∷ us)
-marker_spelled p c us d n = (phase.Marker, marked (Hash p) us (c ∷ []) (first_byte c (enter_marker p c (class_of c) refl d)) n, refl, λ a h. if_true _ _ (not_false _ h))
+marker_spelled p c us d n = (phase.Marker, marked (Hash p) us (c ∷ []) (first_byte c (enter_marker p c (class_of c) refl d)) n, refl, λ a h. if_true _ _ (not-false _ h))
 
 identified : (w : Context) {us : List ℕ} → is_code w ≡ true → IsIdentifier us → length us ≤ 255 → Gets w us phase.Name
 identified w h (letter {c} e) l = first_byte c (enters w c class.Letter h e (λ z. cc))
@@ -253,8 +255,8 @@ no_digit_quote b = refl
 
 plain_quote : (c : ℕ) → is_plain c ≡ true → quote_byte c ≡ goes (phase.Body c)
 plain_quote c e =
-    let k = or_false (c == 39) (c == 92 || c == 10) (not_true _ e) in
-    let j = or_false (c == 92) (c == 10) k.1 in
+    let k = or_parts (c == 39) (c == 92 || c == 10) (not-true _ e) in
+    let j = or_parts (c == 92) (c == 10) k.1 in
     if_false _ _ j.0 ∙ if_false _ _ (ap (λ z. z || c == 10) k.0 ∙ j.1)
 
 quoted_gets : (w : Context) → is_code w ≡ true → {v : ℕ} {us : List ℕ} → IsQuoted v us → Gets w (us ++ 39 ∷ []) (phase.Whole (piece.Character v))
@@ -278,7 +280,7 @@ none_of (Some m) e = cc
 none_of None e = refl
 
 sign_stops : (m : Punct) (us : List ℕ) (c : ℕ) → longer (piece.Punct m) us c ≡ false → sign_byte (punct_named (us ++ c ∷ [])) ≡ stops
-sign_stops m us c e = ap sign_byte (none_of _ (or_false _ _ e).0)
+sign_stops m us c e = ap sign_byte (none_of _ (or_parts _ _ e).0)
 
 not_divide : (c : ℕ) → is_some (punct_named (47 ∷ c ∷ [])) ≡ false → (c == 61) ≡ false
 unfolding punct_named
@@ -294,7 +296,7 @@ and_no false b h = refl
 
 slash_stops : (w : Context) (c : ℕ) → longer (piece.Punct punct.Slash) (47 ∷ []) c ≡ false → slash w c ≡ stops
 slash_stops w c e =
-    let k = or_false (is_some (punct_named (47 ∷ c ∷ []))) (same (47 ∷ []) (47 ∷ []) && c == 42) e in
+    let k = or_parts (is_some (punct_named (47 ∷ c ∷ []))) (same (47 ∷ []) (47 ∷ []) && c == 42) e in
     if_false {b = c == 42} (goes (phase.Comment false)) (if is_code w && c == 61 then goes (phase.Punct punct.DivideAssign) else stops) k.1
     ∙ if_false {b = is_code w && c == 61} (goes (phase.Punct punct.DivideAssign)) stops (and_no (is_code w) (c == 61) (not_divide c k.0))
 

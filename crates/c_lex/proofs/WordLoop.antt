@@ -4,7 +4,7 @@ use Rattle.std.proofs.Math.Seq.{drop-cons}
 use Rattle.std.proofs.Math.Numerals.{add-one}
 use Rattle.std.proofs.Math.ListN.{drop_of_length-le}
 use Rattle.c_lex.specs.Spelling.{same, named}
-use Rattle.c_lex.proofs.Choice.{if_true, if_false}
+use Rattle.list_laws.proofs.Tests.{if_true, if_false}
 
 named_at : {A : Type 0} (f : A → List ℕ) (xs : List A) (us : List ℕ) (i : ℕ) (d : A) → i < length xs → named f (drop i xs) us ≡ (if same us (f (get_or xs i d)) then Some (get_or xs i d) else named f (drop (i + 1) xs) us)
 named_at f xs us i d h = ap (λ z. named f z us) (drop-cons xs i d h) ∙ ap (λ n. if same us (f (get_or xs i d)) then Some (get_or xs i d) else named f (drop n xs) us) (sym (add-one i))

@@ -145,9 +145,6 @@ module _ (n m : ℕ) (lt : suc n < m) (some : nat_eq n 0 ≡ false) where
   brace : List ℕ
   brace = punct p.CloseBrace ∷ []
 
-  GrownFrom : (k : ℕ) → List Expr × Bool → List Token → Type 0
-  GrownFrom k = GrownElements (tree (IsExpr k Assignment))
-
   reads_grown : Reads (GrownElements (tree (IsExpr n Assignment))) (GrownElements (tree (IsExpr m Assignment))) (read_row is_open always (punct p.Comma ∷ []) next_element (read_made first_element (read_element n)) (read_lead (punct p.Comma) (read_optional expr_first (read_element n)))) (read_row is_open always (punct p.Comma ∷ []) next_element (read_made first_element (read_element m)) (read_lead (punct p.Comma) (read_optional expr_first (read_element m)))) expr_first (λ _. punct p.CloseBrace ∷ [])
   reads_grown = reads_row (reads_made reads_element first_element (λ _. after_assignment) (λ c k h. h)) is_open always always
       (λ a f. reads_lead (reads_optional reads_element expr_first (punct p.Comma ∷ punct p.CloseBrace ∷ []) refl refl (λ a. refl)) (mark p.Comma) refl some_absent)

@@ -160,9 +160,6 @@ some_specifiers E =
 -- specifiers, where E has the values of height n at most
 module _ (n m : ℕ) (pos : nat_eq m 0 ≡ false) {E F : Lang Sized} {e f : List Token → Reply Sized} (R : Reads E F e f expr_first (λ _. after_conditional))
     (none : n ≡ 0 → (c : Sized) (us : List Token) → E c us → ⊥) (any : (n ≡ 0 → ⊥) → Some_of E) where
-  after_enumerator : List ℕ
-  after_enumerator = punct p.Comma ∷ punct p.CloseBrace ∷ []
-
   reads_value : Reads (lead (punct p.Equals) E) (lead (punct p.Equals) F) (read_open_lead n (punct p.Equals) e) (read_open_lead m (punct p.Equals) f) (punct p.Equals ∷ []) (λ _. after_conditional)
   reads_value = reads_made (reads_opened (line_if (punct p.Equals)) (punct p.Equals ∷ []) (sign_exact (punct p.Equals)) refl n m (λ z. R) R.some none any pos (mark p.Equals) refl) (λ c. c.1) (λ _. after_conditional) (λ c k h. h)
 

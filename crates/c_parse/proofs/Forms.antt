@@ -20,9 +20,6 @@ use Rattle.c_parse.proofs.Maps.{Each, Any, each_any, each_made, each_either}
 use Rattle.c_parse.proofs.Operands.{ParenL, CastOrParenL, PrefixedL, OperandL}
 use Rattle.c_parse.proofs.Bounds.{higher}
 
-Layer : Type 0
-Layer = Expr-F Expr Specifier Enumerator Specifiers
-
 -- the tests on a node
 pub postfix_node : (x : Expr-F Expr Specifier Enumerator Specifiers) (h : ℕ) → is_postfix (node x h) ≡ postfix_layer x
 postfix_node x h = ap postfix_layer (out-roll-Expr x)
@@ -267,9 +264,6 @@ unary_rank false = Unary
 
 empty : (r : Rank) (c : Sized) (us : List Token) → IsExpr zero r c us → ⊥
 empty r c us l = l
-
-next_height : (n : ℕ) (r : Rank) (c : Sized) (us : List Token) → IsExpr n r c us → IsExpr (suc n) r c us
-next_height n r c us l = higher n (suc n) (omega arith) r c us l
 
 pub postfix_up : (n : ℕ) (b : Bool) (c : Sized) (us : List Token) → IsExpr n Postfix c us → such is_postfix (IsExpr n (unary_rank b)) c us
 postfix_up zero b c us l = absurd l

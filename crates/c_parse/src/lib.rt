@@ -13,4 +13,3 @@ mod statement;
 
 pub use fault::{ParseFault, ParseKind};
 pub use parser::parse;
-pub use precedence::Precedence;

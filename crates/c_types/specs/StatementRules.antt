@@ -3,6 +3,7 @@ use Rattle.std.specs.Prelude.{ℕ, Bool, true, false, ◌&&◌, ◌||◌, ◌==�
 use Rattle.std.specs.List.{list_any}
 use Rattle.hlo_num.specs.declared.word.Ty.{Ty}
 use Rattle.hlo_num.specs.Words.{convert, promote}
+use Rattle.il_core.specs.Limits.{max_elements}
 use Rattle.c_tree.specs.declared.expression.Expr.{Expr}
 use Rattle.c_tree.specs.declared.declaration.Declaration.{Declaration}
 use Rattle.c_tree.specs.declared.declaration.Declarator.{Declarator}
@@ -55,7 +56,7 @@ constant_word e = do
 
 -- the length of an array, whose name stands at this line
 abbrev pub is_length : ℕ → Bool
-is_length n = nat_le 1 n && nat_le n 1048576
+is_length n = nat_le 1 n && nat_le n max_elements
 
 abbrev pub length_of : ℕ → Expr → Rule ℕ
 length_of line e = do

@@ -8,9 +8,7 @@ use crate::fault::{TypeFault, TypeKind};
 use crate::specifiers::Specified;
 use c_tree::{Declarator, Expr, Initialiser};
 use hlo_num::Ty;
-
-/// The greatest length of an array.
-const MAX_LENGTH: usize = 1_048_576;
+use il_core::limits;
 
 impl Checker {
     /// The word of a constant expression; `ConstTrap` where it traps.
@@ -47,7 +45,7 @@ impl Checker {
 pub(crate) fn is_length(n: usize) -> bool
     ensures { result ≡ rules.is_length n }
 {
-    1 <= n && n <= MAX_LENGTH
+    1 <= n && n <= limits::ELEMENTS as usize
 }
 
 /// The line of an initialiser's first token.

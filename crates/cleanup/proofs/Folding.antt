@@ -14,7 +14,7 @@ use Rattle.il_laws.specs.Propagate.{taken, folded, folded_block}
 use Rattle.const_prop.specs.Tables.{NamesRegisters, AreNamed, IsValidRoutine, facts_in, Has}
 use Rattle.const_prop.specs.Flow.{Entered, Left, bare, start_of}
 use Rattle.const_prop.specs.declared.flow.Flow.{Flow}
-use Rattle.const_prop.proofs.Lists.{all_drop}
+use Rattle.list_laws.proofs.Elements.{all_drop}
 use Rattle.const_prop.proofs.Through.{Agree}
 use Rattle.const_prop.proofs.BlockSteps.{Changed, read_rest, named_block, through_as, follows_next, change_next}
 use Rattle.cleanup.specs.Ends.{ReadsRegister, EndsRead}

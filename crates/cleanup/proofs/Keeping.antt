@@ -20,7 +20,7 @@ use Rattle.il_laws.specs.Unreachable.{drop_unreachable, goes_to, grown_from, gro
 use Rattle.il_laws.proofs.FlowLaws.{reachable_is_least}
 use Rattle.il_laws.proofs.Sound.{Targets, valid_sound}
 use Rattle.const_prop.specs.Tables.{IsValidRoutine}
-use Rattle.const_prop.proofs.Lists.{drop_read, all_drop}
+use Rattle.list_laws.proofs.Elements.{drop_read, all_drop}
 use Rattle.const_prop.proofs.BlockSteps.{read_rest}
 use Rattle.cleanup.specs.Marks.{IsClosed, AreLeast, EndsName, NamesBlocks, ArePlaces}
 

@@ -10,7 +10,7 @@ use Rattle.il_laws.specs.Propagate.{propagated_block, with_facts}
 use Rattle.const_prop.specs.Tables.{NamesRegisters, AreNamed, facts_in, Has}
 use Rattle.const_prop.specs.Flow.{Entered, Left, Follows, bare, start_of}
 use Rattle.const_prop.specs.declared.flow.Flow.{Flow}
-use Rattle.const_prop.proofs.Lists.{drop_read, all_drop}
+use Rattle.list_laws.proofs.Elements.{drop_read, all_drop}
 use Rattle.const_prop.proofs.Through.{Agree, through_same, all_same}
 use Rattle.const_prop.proofs.Following.{start_as, follow_more}
 

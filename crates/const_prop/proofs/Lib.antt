@@ -1,6 +1,5 @@
 pub mod BlockSteps
 pub mod Following
-pub mod Lists
 pub mod Marked
 pub mod SiteSteps
 pub mod Through

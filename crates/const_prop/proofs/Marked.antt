@@ -4,7 +4,7 @@ use Rattle.std.specs.Prelude.{Bool, true, false, ◌||◌}
 use Rattle.std.specs.List.{list_any}
 use Rattle.std.proofs.lemmas.List.{drop_all}
 use Rattle.const_prop.specs.Tables.{AddsMarks}
-use Rattle.const_prop.proofs.Lists.{drop_read}
+use Rattle.list_laws.proofs.Elements.{drop_read}
 
 -- what k elements mark, and what the others will mark, is what all mark
 pub record Marking (X : Type 0) (p : X → ℕ → Bool) (xs : List X) (old : List Bool) (k : ℕ) (now : List Bool) : Type 0 where

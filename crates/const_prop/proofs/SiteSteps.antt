@@ -14,7 +14,7 @@ use Rattle.const_prop.specs.Tables.{NamesRegisters, AreNamed, facts_in, Has}
 use Rattle.const_prop.specs.Flow.{Entered, Left, Follows, bare, start_of}
 use Rattle.const_prop.specs.Sites.{words_of}
 use Rattle.const_prop.specs.declared.flow.Flow.{Flow}
-use Rattle.const_prop.proofs.Lists.{drop_read}
+use Rattle.list_laws.proofs.Elements.{drop_read}
 use Rattle.const_prop.proofs.Through.{Agree, Passing, after_same, named_at, pass_step}
 use Rattle.const_prop.proofs.BlockSteps.{named_block, starts_as, follows_next}
 use Rattle.const_prop.proofs.Following.{bare_facts}

@@ -10,7 +10,7 @@ use Rattle.il_core.specs.Operands.{writes}
 use Rattle.il_laws.specs.Facts.{Facts, known_result, gives, after, through}
 use Rattle.il_laws.specs.Propagate.{constant, propagated, propagated_all}
 use Rattle.const_prop.specs.Tables.{NamesRegisters, facts_in, Has}
-use Rattle.const_prop.proofs.Lists.{drop_read, all_drop}
+use Rattle.list_laws.proofs.Elements.{drop_read, all_drop}
 
 -- facts agree on the first n registers
 pub record Agree (n : ℕ) (fs gs : Facts) : Type 0 where

@@ -45,6 +45,10 @@ fn tentative_object(rt: HostRuntime) -> Result<(), Fail> {
     let objects = syms.objects()?;
     let first = objects.first().ok_or("no object")?;
     assert!(rt; first.pid == 0 && first.words == 1 && first.init.is_empty());
+    let shapes = syms.shapes()?;
+    let row = shapes.rows.as_slice().first().ok_or("no row")?;
+    assert!(rt; row.pid == 0 && row.name.bytes() == b"x");
+    assert!(rt; matches!(row.shape, Shape::Object { words: 1 }));
     Ok(())
 }
 

@@ -181,9 +181,6 @@ not_declared token stdio bytes library absent found t h =
 
 -- ---- runs of word bytes
 
-all_word : List ℕ → Type 0
-all_word us = list_all is_word_byte us ≡ true
-
 -- of two runs from one place on, each with no word byte behind it, both are the same
 same_run : (us vs bs cs : List ℕ) → list_all is_word_byte us ≡ true → list_all is_word_byte vs ≡ true → begins_with_word_byte bs ≡ false → begins_with_word_byte cs ≡ false → us ++ bs ≡ vs ++ cs → (us ≡ vs) × (bs ≡ cs)
 same_run [] [] bs cs wu wv eb ec e = (refl, e)

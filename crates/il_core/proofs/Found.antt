@@ -6,7 +6,7 @@ use Rattle.std.proofs.lemmas.Bool.{cases_eq}
 use Rattle.std.proofs.lemmas.Option.{none-some}
 use Rattle.il_core.specs.Program.{found}
 use Rattle.il_core.specs.Shapes.{IsRising, IsRisingFrom}
-use Rattle.il_core.proofs.Cover.{In, Above, Rises}
+use Rattle.list_laws.proofs.Rising.{In, Above, Rises}
 
 pub all_at : {X : Type 0} (P : X → Type 0) (xs : List X) (i : ℕ) (d : X) → AllByRecursion P xs → i < length xs → P (get_or xs i d)
 all_at P [] i d all lt = absurd (omega arith)

@@ -1,5 +1,4 @@
 pub mod Bound
-pub mod Cover
 pub mod Effects
 pub mod Following
 pub mod Found

@@ -14,7 +14,7 @@ use Rattle.il_core.specs.Routine.{RoutineParts}
 use Rattle.il_core.specs.Program.{found, routine_at, shape_of_row, shape_at, words_in, words_of}
 use Rattle.il_core.specs.Valid.{IsProgram, IsValid, IsObjectShape, IsRoutineShape, NamesObject}
 use Rattle.il_core.specs.Limits.{IsPid, max_pids}
-use Rattle.il_core.proofs.Cover.{In, Covers, covers}
+use Rattle.list_laws.proofs.Rising.{In, Covers, covers}
 use Rattle.il_core.proofs.Found.{in_found, found_all, found_in, rising}
 
 row_of : (rows : List ShapeRow) (q : ℕ) (s : Shape) (o : Option ShapeRow) → found (λ row. row.pid) q rows ≡ o → shape_of_row o ≡ Some s

@@ -22,7 +22,7 @@ use Rattle.il_laws.proofs.Induction.{Agree, Relation, related_agree}
 use Rattle.il_laws.proofs.Lists.{ValidBlock, valid_block, get_in}
 use Rattle.il_laws.proofs.Sound.{none_block, Targets, Sound, are_forward, valid_sound}
 use Rattle.il_laws.proofs.ValidBlocks.{with_blocks, valid_with, same_many, block_of, serves_blocks}
-use Rattle.il_laws.proofs.Tests.{or_left, or_right}
+use Rattle.std.proofs.lemmas.Bool.{or_left, or_right}
 use Rattle.il_laws.proofs.Living.{SameLive, does_alive}
 use Rattle.il_laws.proofs.LiveStarts.{starts_at, starts_read}
 

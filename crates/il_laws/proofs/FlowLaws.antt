@@ -18,7 +18,8 @@ use Rattle.il_laws.proofs.LiveStarts.{starts_at}
 use Rattle.il_laws.proofs.Reached.{reachable_closed}
 use Rattle.il_laws.proofs.Renumbered.{Marked}
 use Rattle.il_laws.proofs.Sound.{Targets, are_forward, valid_sound}
-use Rattle.il_laws.proofs.Tests.{or_either, and_left, and_right}
+use Rattle.std.proofs.lemmas.Bool.{or_cases}
+use Rattle.list_laws.proofs.Tests.{and_first, and_second}
 
 -- ---- facts
 
@@ -183,13 +184,13 @@ targets_all P (ends.Exit r) h = tt
 all_named : (P : ℕ → Type 0) (us : List ℕ) (t : ℕ) → AllByRecursion P us → list_any (nat_eq t) us ≡ true → P t
 all_named P [] t all e = absurd (false≢true e)
 all_named P (u ∷ us) t all e =
-    elim (or_either (nat_eq t u) (list_any (nat_eq t) us) e) [ inl h ↦ subst P (sym (eqb-true t u h)) all.0 | inr h ↦ all_named P us t all.1 h ]
+    elim (or_cases (nat_eq t u) (list_any (nat_eq t) us) e) [ inl h ↦ subst P (sym (eqb-true t u h)) all.0 | inr h ↦ all_named P us t all.1 h ]
 
 grown_is : (gone : ℕ → Bool) (b : ℕ) (ms : List Bool) (i : ℕ) → Marked (grown_from gone b ms) i → Marked ms i ⊎ (gone (b + i) ≡ true)
 grown_is gone b [] i m = inl m
 grown_is gone b (k ∷ ms) zero m =
     let here : b ≡ b + 0 = omega arith in
-    elim (or_either k (gone b) (same_Some (k || gone b) true m)) [ inl h ↦ inl (ap Some h) | inr h ↦ inr (ap gone (sym here) ∙ h) ]
+    elim (or_cases k (gone b) (same_Some (k || gone b) true m)) [ inl h ↦ inl (ap Some h) | inr h ↦ inr (ap gone (sym here) ∙ h) ]
 grown_is gone b (k ∷ ms) (suc i) m =
     let there : b + suc i ≡ suc b + i = omega arith in
     elim (grown_is gone (suc b) ms i m) [ inl h ↦ inl h | inr h ↦ inr (ap gone there ∙ h) ]
@@ -206,13 +207,13 @@ goes_from : (ms : List Bool) (bs : List Block) (t : ℕ) → goes_to ms bs t ≡
 goes_from [] bs t e = absurd (false≢true e)
 goes_from (m ∷ ms) [] t e = absurd (false≢true e)
 goes_from (m ∷ ms) (x ∷ bs) t e =
-    elim (or_either (m && list_any (nat_eq t) (targets x.end)) (goes_to ms bs t) e) [
+    elim (or_cases (m && list_any (nat_eq t) (targets x.end)) (goes_to ms bs t) e) [
       | inl h ↦ record {
         at = 0;
         block = x;
         is = refl;
-        mark = ap Some (and_left m (list_any (nat_eq t) (targets x.end)) h);
-        goes = and_right m (list_any (nat_eq t) (targets x.end)) h;
+        mark = ap Some (and_first m (list_any (nat_eq t) (targets x.end)) h);
+        goes = and_second m (list_any (nat_eq t) (targets x.end)) h;
       }
       | inr h ↦ (let g = goes_from ms bs t h in record { at = suc g.at; block = g.block; is = g.is; mark = g.mark; goes = g.goes })
     ]

@@ -12,7 +12,8 @@ use Rattle.il_core.specs.World.{World, choose}
 use Rattle.il_core.specs.Meaning.{Frame, frame_of, Lengths, Next, step, finish}
 use Rattle.il_core.specs.Operands.{is_named, writes, loops_to}
 use Rattle.il_laws.specs.Facts.{Facts, after, through, any_writes, looped, jumps_to, before, facts_at}
-use Rattle.il_laws.proofs.Tests.{or_left, or_right, or_either, or_first, or_second}
+use Rattle.std.proofs.lemmas.Bool.{or_left, or_right, or_cases}
+use Rattle.list_laws.proofs.Tests.{or_first, or_second}
 use Rattle.il_laws.specs.Propagate.{with_facts, taken, folded}
 use Rattle.il_laws.specs.Runs.{Calls, silent, does, turned, run}
 use Rattle.il_laws.proofs.Alike.{CallsAlike, anything, anything_blocks}
@@ -103,7 +104,7 @@ jump_targets (ends.Return r) = tt
 jump_targets (ends.Exit r) = tt
 
 jump_later : (t u : ℕ) (e : End) → IsForward t e → jumps_to e u ≡ true → t < u
-jump_later t u (ends.Jump v) lt j = elim (or_either (nat_eq u v) false j) [
+jump_later t u (ends.Jump v) lt j = elim (or_cases (nat_eq u v) false j) [
   | inl a ↦ (let same = eqb-true u v a in omega arith)
   | inr a ↦
       absurd (false≢true a)
@@ -111,9 +112,9 @@ jump_later t u (ends.Jump v) lt j = elim (or_either (nat_eq u v) false j) [
 jump_later t u (ends.Branch r v x) lt j =
     let lt0 = lt.0 in
     let lt1 = lt.1 in
-    elim (or_either (nat_eq u v) (nat_eq u x || false) j) [
+    elim (or_cases (nat_eq u v) (nat_eq u x || false) j) [
       | inl a ↦ (let same = eqb-true u v a in omega arith)
-      | inr a ↦ elim (or_either (nat_eq u x) false a) [ inl b ↦ (let same = eqb-true u x b in omega arith) | inr b ↦ absurd (false≢true b) ]
+      | inr a ↦ elim (or_cases (nat_eq u x) false a) [ inl b ↦ (let same = eqb-true u x b in omega arith) | inr b ↦ absurd (false≢true b) ]
     ]
 jump_later t u (ends.Loop v) lt j = absurd (false≢true j)
 jump_later t u (ends.Return r) lt j = absurd (false≢true j)

@@ -23,7 +23,7 @@ use Rattle.il_laws.proofs.Main.{main_of_row}
 use Rattle.il_laws.proofs.ReachClosed.{live_calls, main_live}
 use Rattle.il_laws.proofs.Serving.{each_found, run_kept}
 use Rattle.il_laws.proofs.Shaped.{valid_stays, in_row, reached_same}
-use Rattle.il_laws.proofs.Tests.{or_right}
+use Rattle.std.proofs.lemmas.Bool.{or_right}
 
 module _ (keep : ℕ → Bool) (p : IlProgram) (valid : IsProgram p) (main_stays : keep (main_pid p.shapes) ≡ true)
     (closed : (x : ℕ) (r : RoutineParts) → keep x ≡ true → routine_at p.routines x ≡ Some r → BlocksCallIn (λ q. keep q ≡ true) r.blocks) where

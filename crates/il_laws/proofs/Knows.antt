@@ -13,7 +13,8 @@ use Rattle.il_core.specs.Meaning.{Frame, with_reg, is_among}
 use Rattle.il_core.specs.Operands.{is_named, writes, loops_to}
 use Rattle.il_laws.specs.Facts.{Facts, word_in, known_result, gives, after, any_writes, written, looped}
 use Rattle.il_laws.proofs.Same.{Leaves}
-use Rattle.il_laws.proofs.Tests.{or_left, or_right, or_first, or_second}
+use Rattle.std.proofs.lemmas.Bool.{or_left, or_right}
+use Rattle.list_laws.proofs.Tests.{or_first, or_second}
 
 -- a frame has what is known
 pub record Knows (fs : Facts) (f : Frame) : Type 0 where

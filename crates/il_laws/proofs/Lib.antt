@@ -24,7 +24,6 @@ pub mod RenumberedValid
 pub mod LiveStarts
 pub mod DeadWrites
 pub mod Simplified
-pub mod Tests
 pub mod Samples
 pub mod MixedSamples
 pub mod Sizes

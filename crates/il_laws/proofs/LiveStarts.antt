@@ -11,7 +11,8 @@ use Rattle.il_core.specs.declared.instr.End.TheVariants as ends
 use Rattle.il_core.specs.Operands.{is_named, reads, end_reads, writes}
 use Rattle.il_laws.specs.Live.{any_reads, read_in, Live, is_dead, live_through, live_at_end, nth_live, live_by, live_starts}
 use Rattle.il_laws.proofs.Places.{IsForward, AreForward, forward_less, forward_at}
-use Rattle.il_laws.proofs.Tests.{or_yes, or_either, and_left}
+use Rattle.std.proofs.lemmas.Bool.{or_cases}
+use Rattle.list_laws.proofs.Tests.{or_yes, and_first}
 
 -- what is live at the start of a block, by its number
 look_same : (b u : ℕ) (s : Live) (later : List Live) → b < u → live_by (suc b) later u ≡ live_by b (s ∷ later) u
@@ -55,8 +56,8 @@ module _ (bs : List Block) where
   before_read : (i : Instr) (live : Live) (x : ℕ) (k : Bool) → (if k then live x else reads i x || (live x && not (writes i x))) ≡ true
       → (reads i x ≡ true) ⊎ (live x ≡ true)
   before_read i live x true e = inr e
-  before_read i live x false e = elim (or_either (reads i x) (live x && not (writes i x)) e)
-      [ inl h ↦ inl h | inr h ↦ inr (and_left (live x) (not (writes i x)) h) ]
+  before_read i live x false e = elim (or_cases (reads i x) (live x && not (writes i x)) e)
+      [ inl h ↦ inl h | inr h ↦ inr (and_first (live x) (not (writes i x)) h) ]
 
   through_read : (is : List Instr) (live : Live) (x : ℕ) → live_through is live x ≡ true → (any_reads is x ≡ true) ⊎ (live x ≡ true)
   through_read [] live x e = inr e
@@ -72,18 +73,18 @@ module _ (bs : List Block) where
   some_read : (at : ℕ → Live) (us : List ℕ) (x : ℕ) → ((u : ℕ) → at u x ≡ true → read_in bs x ≡ true)
       → list_any (λ u. at u x) us ≡ true → read_in bs x ≡ true
   some_read at [] x h e = absurd (false≢true e)
-  some_read at (u ∷ us) x h e = elim (or_either (at u x) (list_any (λ v. at v x) us) e) [ inl a ↦ h u a | inr a ↦ some_read at us x h a ]
+  some_read at (u ∷ us) x h e = elim (or_cases (at u x) (list_any (λ v. at v x) us) e) [ inl a ↦ h u a | inr a ↦ some_read at us x h a ]
 
   end_read : (at : ℕ → Live) (e : End) (x : ℕ) → ((u : ℕ) → at u x ≡ true → read_in bs x ≡ true) → live_at_end bs at e x ≡ true
       → (end_reads e x ≡ true) ⊎ (read_in bs x ≡ true)
   end_read at (ends.Loop t) x h e = inr e
   end_read at (ends.Jump t) x h e = inr (some_read at (t ∷ []) x h e)
-  end_read at (ends.Branch r t u) x h e = elim (or_either (nat_eq x r) (list_any (λ v. at v x) (t ∷ u ∷ [])) e) [
+  end_read at (ends.Branch r t u) x h e = elim (or_cases (nat_eq x r) (list_any (λ v. at v x) (t ∷ u ∷ [])) e) [
     | inl a ↦ inl a
     | inr a ↦ inr (some_read at (t ∷ u ∷ []) x h a)
   ]
-  end_read at (ends.Return r) x h e = elim (or_either (is_named r x) false e) [ inl a ↦ inl a | inr a ↦ absurd (false≢true a) ]
-  end_read at (ends.Exit r) x h e = elim (or_either (nat_eq x r) false e) [ inl a ↦ inl a | inr a ↦ absurd (false≢true a) ]
+  end_read at (ends.Return r) x h e = elim (or_cases (is_named r x) false e) [ inl a ↦ inl a | inr a ↦ absurd (false≢true a) ]
+  end_read at (ends.Exit r) x h e = elim (or_cases (nat_eq x r) false e) [ inl a ↦ inl a | inr a ↦ absurd (false≢true a) ]
 
   pub starts_read : (b : ℕ) (xs : List Block) (x : ℕ) → (read_in xs x ≡ true → read_in bs x ≡ true) → (i : ℕ) → nth_live (live_starts bs b xs) i x
       ≡ true → read_in bs x ≡ true

@@ -17,7 +17,8 @@ use Rattle.il_laws.specs.Runs.{Calls, silent, does}
 use Rattle.il_laws.proofs.Alike.{CallsAlike, anything}
 use Rattle.il_laws.proofs.Falling.{both_where, step_falls}
 use Rattle.il_laws.proofs.Induction.{Agree}
-use Rattle.il_laws.proofs.Tests.{or_left, or_right, or_first, or_second, and_left, and_right, not_true}
+use Rattle.std.proofs.lemmas.Bool.{or_left, or_right, not-true}
+use Rattle.list_laws.proofs.Tests.{or_first, or_second, and_first, and_second}
 
 -- the same in all registers that are live, and in all arrays
 pub record SameLive (live : Live) (f g : Frame) : Type 0 where
@@ -103,8 +104,8 @@ module _ {S : Type 0} (c : Calls S) (falls : (t : ℕ) → CallsAlike anything t
   step_dead m live i a b e go =
       record {
         by = λ f g w le h.
-            let p = purely (silent c) n 0 i f w (and_left (is_pure i) (not (is_wanted i live)) e) in
-            let dead = not_true (is_wanted i live) (and_right (is_pure i) (not (is_wanted i live)) e) in
+            let p = purely (silent c) n 0 i f w (and_first (is_pure i) (not (is_wanted i live)) e) in
+            let dead = not-true (is_wanted i live) (and_second (is_pure i) (not (is_wanted i live)) e) in
             step_is (silent c) n 0 i a f w
             ∙ ap (λ (o : Effect S). follow o a) p.on
             ∙ go.by p.frame g w le (record { reg = λ x l. p.regs x (not_written i live x dead l) ∙ h.reg x l; array = λ x. p.arrays x ∙ h.array x });

@@ -18,7 +18,7 @@ use Rattle.il_laws.specs.Runs.{Callable, IsCallIn, CallsIn, BlocksCallIn}
 use Rattle.il_laws.specs.Sites.{listed, callees_in, callees}
 use Rattle.il_core.proofs.Found.{found_here, found_there}
 use Rattle.il_laws.proofs.SpliceBlocks.{all_front, all_rest}
-use Rattle.il_laws.proofs.Tests.{or_left, or_right, or_either}
+use Rattle.std.proofs.lemmas.Bool.{or_left, or_right, or_cases}
 
 -- the mark of the node with this number
 abbrev marked : List Caller → List Bool → ℕ → Bool
@@ -183,7 +183,7 @@ module _ (cs : List Caller) where
     -- a node that is reached is marked
     reached_marked : (x : ℕ) (c : Caller) → node x cs c → is_reached cs from x ≡ true → marked cs (reached cs from) x ≡ true
     reached_marked x c e h =
-        elim (or_either (nat_eq x from) (is_called (reached cs from) cs x) h) [
+        elim (or_cases (nat_eq x from) (is_called (reached cs from) cs x) h) [
           | inl same ↦ (let is : x ≡ from = eqb-true x from same in
               subst (λ (y : ℕ). marked cs (reached cs from) y ≡ true) (sym is)
               (rounds_stay (suc (length cs)) first from (first_marked cs c (subst (λ (y : ℕ). node y cs c) is e))))

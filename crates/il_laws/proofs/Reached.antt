@@ -12,7 +12,8 @@ use Rattle.il_laws.specs.Edges.{one_if}
 use Rattle.il_laws.specs.Unreachable.{goes_to, grown_from, grown, rounds, first_marked, reachable}
 use Rattle.il_laws.proofs.Sound.{Targets, targets_map, both_targets, Sound}
 use Rattle.il_laws.proofs.Renumbered.{Marked, IsClosed}
-use Rattle.il_laws.proofs.Tests.{or_yes, or_left, or_right}
+use Rattle.std.proofs.lemmas.Bool.{or_left, or_right}
+use Rattle.list_laws.proofs.Tests.{or_yes}
 
 abbrev count : List Bool → ℕ
 count [] = 0

@@ -94,9 +94,6 @@ module _ (old : Store) (r : RoutineParts) (sizes : List ℕ) (h : Holds old r si
   inside_is : (index len : ℕ) (m : Data) → index < len → inside index len m ≡ Ok m
   inside_is index len m lt = ap (λ (c : Bool). if c then Ok m else Err Index) (lt-ltb index len lt)
 
-  outside_is : (index len : ℕ) (m : Data) → len ≤ index → inside index len m ≡ Err Index
-  outside_is index len m le = ap (λ (c : Bool). if c then Ok m else Err Index) (le-ltb index len le)
-
   pub get_x_done : (new : Store) (i : Instr) (d g x index at v : ℕ) → i ≡ GetX d g x → Fits r sizes i → index ≡ slice_index old.regs.items (old.at_regs + x) → index < slice_index sizes g → at ≡ start_of sizes g + index → v ≡ get_or old.words.items at v → SetsReg old new d v → Executes r sizes i old new (Ok tt)
   get_x_done new i d g x index at v e fits is lt is_at read set = by_arm i (GetX d g x) new (Ok tt) e fits (λ f. record {
     below = sets_below new d v set;

@@ -118,9 +118,6 @@ module _ (p : IlProgram) (t : Tables) (tabled : IsTabled p t) (old : Machine) (s
         ∙ ap (λ (k : ℕ). to_come p t (record { store = s; routine = callee; block = 0; instr = 0; stack = stack; turns = old.turns - 1 }) input output (record { caller = (routine_in p old.routine).pid; site = site_at (routine_in p old.routine) old.block old.instr; callee = k } ∷ calls)) (sym (found_number (λ (r : RoutineParts). r.pid) q p.routines (routine_in p callee) found));
   }
 
-  AtEndHere : End → Type 0
-  AtEndHere e = AtEnd {S = List MadeCall} add_call p t tabled old sound e
-
   later_place : (u : ℕ) → u < length (routine_in p old.routine).blocks → IsPlace p old.routine u 0
   later_place u lt = record { in_program = sound.place.in_program; in_routine = lt; in_block = omega arith }
 

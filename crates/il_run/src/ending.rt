@@ -2,6 +2,7 @@
 use hlo_num::{Trap, Word};
 use outside::Failed;
 use std::alloc::AllocError;
+use thiserror::Error;
 
 /// How a program ends.
 #[derive(Clone, Copy, Debug, PartialEq, Eq)]
@@ -15,13 +16,16 @@ pub enum Ending {
 }
 
 /// Why a run stops before the program's end.
-#[derive(Clone, Copy, Debug, PartialEq, Eq)]
+#[derive(Clone, Copy, Debug, Drop, PartialEq, Eq, Error)]
 pub enum RunFault {
     /// The source of the input failed.
+    #[error("reading the input failed")]
     Input,
     /// The sink of the output failed.
+    #[error("writing the output failed")]
     Output,
     /// Memory ran out.
+    #[error("out of memory")]
     Memory,
 }
 

@@ -13,7 +13,7 @@ use Rattle.naim_core.specs.declared.event.Mode.TheVariants as mode
 use Rattle.naim_core.specs.declared.pool.Pool.{Pool}
 use Rattle.naim_core.specs.declared.pool.Stage.{Stage}
 use Rattle.naim_core.specs.declared.pool.Stage.TheVariants as stage
-use Rattle.naim_core.proofs.Maps.{other_number, number_itself, head_absent}
+use Rattle.list_laws.proofs.Entries.{other_number, number_itself, head_absent}
 
 held_small : (limit : ℕ) (st : Stage) (e c : ℕ) → IsFitPool limit (record { stage = st; e = e; c = c }) → held_part (record { stage = st; e = e; c = c }) ≤ 2 ^ 42
 held_small limit stage.Free e c f = omega arith

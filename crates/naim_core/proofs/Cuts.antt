@@ -19,7 +19,7 @@ use Rattle.naim_core.specs.declared.pool.Pool.{Pool}
 use Rattle.naim_core.specs.declared.state.Hand.{Hand}
 use Rattle.naim_core.proofs.Keeps.{one, count_set}
 use Rattle.naim_core.proofs.Kept.{hand_at_there}
-use Rattle.naim_core.proofs.Maps.{other_number, same_number}
+use Rattle.list_laws.proofs.Entries.{other_number, same_number}
 use Rattle.naim_core.proofs.Repeat.{no_repeat}
 use Rattle.naim_core.proofs.Waves.{claim_sound, begin_wave_sound, end_wave_sound, no_task_held, distinct_of, all_present, empty_parts}
 

@@ -26,7 +26,7 @@ use Rattle.naim_core.specs.declared.pool.Pool.{Pool}
 use Rattle.naim_core.specs.declared.pool.Stage.{Stage}
 use Rattle.naim_core.specs.declared.pool.Stage.TheVariants as stage
 use Rattle.naim_core.specs.declared.state.Hand.{Hand}
-use Rattle.naim_core.proofs.Maps.{same_number, number_itself, other_number, sum_removed, apart_number, head_absent, apart_from_none}
+use Rattle.list_laws.proofs.Entries.{same_number, number_itself, other_number, sum_removed, apart_number, head_absent, apart_from_none}
 use Rattle.naim_core.proofs.Keeps.{one, Swapped, swapped_front, swapped_in_place, Fits, Change, holds_is, change_sound}
 
 -- a place that keeps what it holds, takes p, or lets p go

@@ -14,7 +14,7 @@ use Rattle.naim_core.specs.State.{IsKept, start, empty_hand, holds}
 use Rattle.naim_core.specs.declared.state.Hand.{Hand}
 use Rattle.naim_core.proofs.Keeps.{one}
 use Rattle.naim_core.specs.Table.{Place, Order, pools_in, IsOrder, IsIndexed, IsSpare, IsTable}
-use Rattle.naim_core.proofs.Maps.{other_number, apart_number}
+use Rattle.list_laws.proofs.Entries.{other_number, apart_number}
 
 -- n empty slots, in the order in which they were put
 pub empty_order : ℕ → Order

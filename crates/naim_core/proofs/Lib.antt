@@ -4,7 +4,6 @@ pub mod Events
 pub mod Fresh
 pub mod Keeps
 pub mod Kept
-pub mod Maps
 pub mod Told
 pub mod Places
 pub mod Repeat

@@ -8,7 +8,7 @@ use Rattle.std.proofs.lemmas.Option.{same_Some, some_pair_parts}
 use Rattle.lru.specs.LruCache.{LruCache, put_entries}
 use Rattle.naim_core.specs.Table.{Place, Order, pools_in, pid_at}
 use Rattle.naim_core.specs.declared.pool.Pool.{Pool}
-use Rattle.naim_core.proofs.Maps.{head_absent, same_number, other_number, number_itself, entry_found}
+use Rattle.list_laws.proofs.Entries.{head_absent, same_number, other_number, number_itself, entry_found}
 
 -- two pools of a table have different PIDs
 apart : (p q : ℕ) (x y : Pool) (es : Order) → IsDistinct nat_eq (keys_of ((q, y) ∷ pools_in es)) → lookup (nat_eq p) (pools_in es) ≡ Some x → nat_eq p q ≡ false

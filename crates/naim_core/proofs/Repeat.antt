@@ -8,7 +8,7 @@ use Rattle.std.specs.List.Sorted.{IsSorted, IsPermutation}
 use Rattle.std.proofs.lemmas.List.Sorted.{IsPermutation-sym}
 use Rattle.std.proofs.lemmas.Map.Keys.{IsDistinct-head, IsDistinct-tail, IsDistinct-from_apart, IsDistinct-IsPermutation, apart_from_distinct, ge_from_not_lt}
 use Rattle.naim_core.specs.State.{has_repeat, is_in}
-use Rattle.naim_core.proofs.Maps.{other_number, number_itself}
+use Rattle.list_laws.proofs.Entries.{other_number, number_itself}
 use Rattle.naim_core.proofs.Waves.{distinct_of}
 
 -- distinct numbers stand once

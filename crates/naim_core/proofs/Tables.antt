@@ -13,7 +13,7 @@ use Rattle.std.proofs.lemmas.Option.{same_Some}
 use Rattle.naim_core.specs.Charges.{under_part, held_part, under_sum, held_sum}
 use Rattle.naim_core.specs.Table.{Place, Order, pools_in, pid_at, IsFound, IsOrder, IsIndexed, IsSpare, IsTable}
 use Rattle.naim_core.specs.declared.pool.Pool.{Pool}
-use Rattle.naim_core.proofs.Maps.{same_number, other_number, number_itself, lookup_front, lookup_set, lookup_removed, distinct_front, distinct_set, distinct_removed, sum_removed, length_removed, apart_from_none, none_left}
+use Rattle.list_laws.proofs.Entries.{same_number, other_number, number_itself, lookup_front, lookup_set, lookup_removed, distinct_front, distinct_set, distinct_removed, sum_removed, length_removed, apart_from_none, none_left}
 use Rattle.naim_core.proofs.Places.{slot_found, removed_pool, set_pool, removed_empty}
 
 -- what a look-up finds after the content at i has become v

@@ -20,7 +20,7 @@ use Rattle.naim_core.specs.declared.pool.Stage.TheVariants as stage
 use Rattle.naim_core.specs.declared.state.Hand.{Hand}
 use Rattle.naim_core.proofs.Events.{permit_gives, permit_ok, pin_read_sound, pin_write_sound, reload_begin_sound, reload_end_sound, unpin_read_sound, compact_begin_sound, compact_end_sound, offload_begin_sound, offload_end_sound, unpin_write_sound}
 use Rattle.naim_core.proofs.Keeps.{holds_is, one}
-use Rattle.naim_core.proofs.Maps.{number_itself, same_number}
+use Rattle.list_laws.proofs.Entries.{number_itself, same_number}
 
 -- the pool p and the hand of the worker w, as they were read in the state s; contracts see s as now
 pub record Met (s now : Core) (p w : ℕ) (x : Pool) (h : Hand) : Type 0 where

@@ -13,7 +13,7 @@ use Rattle.naim_core.specs.State.{is_free, is_compacted, victim}
 use Rattle.naim_core.specs.Table.{Place, Order, pools_in}
 use Rattle.naim_core.specs.declared.pool.Pool.{Pool}
 use Rattle.naim_core.specs.declared.pool.Stage.{Stage}
-use Rattle.naim_core.proofs.Maps.{number_itself}
+use Rattle.list_laws.proofs.Entries.{number_itself}
 
 -- the last pool at a stage that passes, with one more pool before the others
 pub last_more : (p : Stage → Bool) (e : ℕ × Pool) (tail : List (ℕ × Pool)) → find (λ x. p x.1.stage) (reverse (e ∷ tail)) ≡ option_or (find (λ x. p x.1.stage) (reverse tail)) (cond (p e.1.stage) (Some e) None)

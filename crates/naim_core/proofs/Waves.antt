@@ -15,7 +15,7 @@ use Rattle.naim_core.specs.declared.pool.Pool.{Pool}
 use Rattle.naim_core.specs.declared.pool.Stage.{Stage}
 use Rattle.naim_core.specs.declared.pool.Stage.TheVariants as stage
 use Rattle.naim_core.specs.declared.state.Hand.{Hand}
-use Rattle.naim_core.proofs.Maps.{same_number, number_itself, other_number, lookup_removed, distinct_removed, sum_removed, length_removed}
+use Rattle.list_laws.proofs.Entries.{same_number, number_itself, other_number, lookup_removed, distinct_removed, sum_removed, length_removed}
 use Rattle.naim_core.proofs.Keeps.{one, count_set, all_set, set_same, set_other}
 
 -- a stage at which nobody holds the pool

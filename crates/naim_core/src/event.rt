@@ -3,6 +3,7 @@ ghost use Rattle.std.specs.Prelude.{◌≡◌};
 ghost use Rattle.naim_core.specs.Steps.{is_fail};
 
 use hlo_num::Seq;
+use thiserror::Error;
 
 /// The form in which a free pool lies in memory.
 #[derive(Clone, Copy, Debug, PartialEq, Eq)]
@@ -118,67 +119,89 @@ impl Event {
 }
 
 /// Why an event is refused, in the order in which the parts of its row are tested.
-#[derive(Clone, Copy, Debug, PartialEq, Eq)]
+#[derive(Clone, Copy, Debug, Drop, PartialEq, Eq, Error)]
 pub enum Refusal {
     /// A failure is kept.
+    #[error("a failure is kept")]
     Stopped,
     /// The pool, or some task's pool, is not there.
+    #[error("there is no such pool")]
     Absent,
     /// The pool is there already, or a task stands twice.
+    #[error("the pool is there already, or a task stands twice")]
     Present,
     /// The worker does not hold the pool in that way.
+    #[error("the worker does not hold the pool in that way")]
     NotHeld,
     /// The worker's hand lacks a free place that the event needs.
+    #[error("no place is free in the worker's hand")]
     HandFull,
     /// No task is unclaimed, no wave is open, or the pool is not the worker's task.
+    #[error("there is no such task")]
     NoTask,
     /// The pool is on its way between two forms.
+    #[error("the pool is on its way between two forms")]
     Moving,
     /// The pool has a form that the event does not take.
+    #[error("the pool has another form")]
     WrongForm,
     /// A pin, a wave, a full hand or a task that is not done stands against it.
+    #[error("a pin, a wave, a full hand or an open task stands against it")]
     InUse,
     /// A worker has the disk.
+    #[error("a worker has the disk")]
     DiskOut,
     /// The bytes wanted fit without a move.
+    #[error("the bytes fit without a move")]
     Fits,
     /// Another pool is to go first.
+    #[error("another pool is to go first")]
     NotVictim,
     /// 4,096 pools are there.
+    #[error("4,096 pools are there")]
     Full,
     /// A number is outside its range.
+    #[error("a number is outside its range")]
     BadSize,
     /// The compact form, of so many bytes, is longer than the limit.
+    #[error("a compact form of {0} bytes is above the limit")]
     TooSmall(u32),
     /// The form, of so many bytes, does not fit now.
+    #[error("a form of {0} bytes does not fit now")]
     NeedsRoom(u64),
 }
 
 /// A failure that stops the events.
-#[derive(Clone, Copy, Debug, PartialEq, Eq)]
+#[derive(Clone, Copy, Debug, Drop, PartialEq, Eq, Error)]
 pub enum Failure {
     /// The disk failed.
+    #[error("the disk failed")]
     Repository,
     /// A record has other bytes than those filed: their SHA-256 and the one kept differ.
+    #[error("the record at {place} has other bytes than those filed")]
     Damaged {
         place: u64,
         kept: [u8; 32],
         found: [u8; 32],
     },
     /// A record's bytes spell no body.
+    #[error("the record at {place} spells no body")]
     Unreadable {
         place: u64,
     },
     /// A body is not fit for the job.
+    #[error("the body of pool {pid} does not fit the job")]
     Unfit {
         pid: u32,
     },
     /// A compact form is longer than the limit.
+    #[error("the compact form of pool {pid}, of {need} bytes, is above the limit of {limit}")]
     TooSmall {
         pid: u32,
         need: u32,
         limit: u64,
     },
     /// Memory was wanting.
+    #[error("out of memory")]
     Memory,
 }

@@ -5,6 +5,7 @@ ghost use Rattle.outside.specs.Told.{Told, SameFiles, ReadsTold, IsFile, IsLonge
 
 use crate::fault::Failed;
 use std::alloc::{AllocError, Global};
+use thiserror::Error;
 
 /// Has files by name, and gives their bytes.
 pub trait Shelf {
@@ -28,13 +29,16 @@ pub trait Shelf {
 }
 
 /// Why a file wasn't read.
-#[derive(Clone, Copy, Debug, PartialEq, Eq)]
+#[derive(Clone, Copy, Debug, Drop, PartialEq, Eq, Error)]
 pub enum ReadFault {
     /// The shelf failed; its count of the name rose.
+    #[error("reading the file failed")]
     Failed,
     /// The file has more bytes than were allowed.
+    #[error("the file has more bytes than are allowed")]
     TooLong,
     /// Memory ran out.
+    #[error("out of memory")]
     Memory,
 }
 

@@ -22,7 +22,7 @@ use Rattle.il_laws.proofs.Kept.{all_both}
 use Rattle.il_core.proofs.Programs.{shape_is}
 use Rattle.il_laws.proofs.Serving.{follow_then}
 use Rattle.il_laws.proofs.Shaped.{in_row}
-use Rattle.il_laws.proofs.Tests.{and_left, and_right}
+use Rattle.list_laws.proofs.Tests.{and_first, and_second}
 use Rattle.plan_laws.specs.Summary.{Summary, summary_at}
 use Rattle.plan_laws.specs.Numbers.{Numbers, is_within}
 use Rattle.plan_laws.specs.Groups.{Group, Taken, Spent, clone_fits, more_spent, refused, with_new, decided, clone_in, clone_numbers, taken}
@@ -270,9 +270,9 @@ module _ (names : List ShapeRow) (once : HasEachNameOnce names) where
         let cost = nat_le (b.cost + n.size ^ 2) limit && is_within n in
         let room = nat_lt b.routines 4096 in
         let pid = nat_lt b.next 131072 in
-        let first = and_left (cost && room) pid e in
-        make_one g gs rest b n st sound few below fits all (ltb-true b.routines 4096 (and_right cost room first))
-        (ltb-true b.next 131072 (and_right (cost && room) pid e))
+        let first = and_first (cost && room) pid e in
+        make_one g gs rest b n st sound few below fits all (ltb-true b.routines 4096 (and_second cost room first))
+        (ltb-true b.next 131072 (and_second (cost && room) pid e))
 
     decide_one : (g : Group) (gs : List Group) → Rest gs → (b : Spent) (st : State) (o : Option ℕ) (m : Option Summary) → IsSound names st
         → length st.program.routines ≤ b.routines → st.next ≤ b.next → GroupFits st.program g → AllByRecursion (GroupFits st.program) gs

@@ -10,7 +10,7 @@ use Rattle.il_laws.specs.Known.{KnownSite, known_sites}
 use Rattle.il_core.proofs.Found.{found_number}
 use Rattle.il_laws.proofs.Serving.{each_found}
 use Rattle.il_laws.proofs.SpliceBlocks.{all_append}
-use Rattle.il_laws.proofs.Tests.{and_left, and_right}
+use Rattle.list_laws.proofs.Tests.{and_first, and_second}
 use Rattle.plan_laws.specs.Summary.{Summary, summary, summaries, CallSite, numbered, call_sites}
 use Rattle.plan_laws.specs.Numbers.{Choice, is_chosen, InlineSite, if_chosen, falling, inlined_numbers, is_within, cost_after}
 use Rattle.plan_laws.specs.Levels.{level, is_acyclic, height}
@@ -79,15 +79,15 @@ module _ (ss : List Summary) (main limit : ℕ) where
   pub choice_acyclic : is_acyclic (choice ss main limit) ≡ true
   choice_acyclic =
       accepted_holds ss main limit (λ cs. is_acyclic cs ≡ true)
-      (λ cs e. and_left (is_acyclic cs) (list_all (λ s. is_within (inlined_numbers ss cs s)) ss)
-      (and_left (is_acyclic cs && list_all (λ s. is_within (inlined_numbers ss cs s)) ss) (nat_le (cost_after ss cs) limit) e)) [] (ranked_sites ss) refl
+      (λ cs e. and_first (is_acyclic cs) (list_all (λ s. is_within (inlined_numbers ss cs s)) ss)
+      (and_first (is_acyclic cs && list_all (λ s. is_within (inlined_numbers ss cs s)) ss) (nat_le (cost_after ss cs) limit) e)) [] (ranked_sites ss) refl
 
   pub choice_within : list_all (λ s. is_within (inlined_numbers ss [] s)) ss ≡ true
       → list_all (λ s. is_within (inlined_numbers ss (choice ss main limit) s)) ss ≡ true
   choice_within h =
       accepted_holds ss main limit (λ cs. list_all (λ s. is_within (inlined_numbers ss cs s)) ss ≡ true)
-      (λ cs e. and_right (is_acyclic cs) (list_all (λ s. is_within (inlined_numbers ss cs s)) ss)
-      (and_left (is_acyclic cs && list_all (λ s. is_within (inlined_numbers ss cs s)) ss) (nat_le (cost_after ss cs) limit) e)) [] (ranked_sites ss) h
+      (λ cs e. and_second (is_acyclic cs) (list_all (λ s. is_within (inlined_numbers ss cs s)) ss)
+      (and_first (is_acyclic cs && list_all (λ s. is_within (inlined_numbers ss cs s)) ss) (nat_le (cost_after ss cs) limit) e)) [] (ranked_sites ss) h
 
 pub choice_calls : (p : IlProgram) → IsProgram p → (main limit : ℕ) → AreCalls p.routines (choice (summaries p) main limit)
 choice_calls p valid main limit =
@@ -113,8 +113,8 @@ module _ (rs : List RoutineParts) (cs : List Choice) (r : RoutineParts) (here : 
   lower_at (d ∷ ds) h g k x at e =
       elim (or_true (nat_eq d.caller r.pid && nat_eq d.site k) (is_chosen ds r.pid k) e) [
         | inl both ↦
-            (let caller = eqb-true d.caller r.pid (and_left (nat_eq d.caller r.pid) (nat_eq d.site k) both) in
-            let site = eqb-true d.site k (and_right (nat_eq d.caller r.pid) (nat_eq d.site k) both) in
+            (let caller = eqb-true d.caller r.pid (and_first (nat_eq d.caller r.pid) (nat_eq d.site k) both) in
+            let site = eqb-true d.site k (and_second (nat_eq d.caller r.pid) (nat_eq d.site k) both) in
             let found = ap (λ (y : ℕ). routine_at rs y) caller ∙ here in
             let callee : x.callee ≡ d.callee = h.0 r x found (ap (λ (n : ℕ). slice_get (known_sites r) n) site ∙ at) in
             let one = ap (λ (y : ℕ). level cs y) callee in

@@ -3,7 +3,7 @@ use Rattle.std.proofs.Common.{◌≡◌, ℕ, ◌+◌, List, [], ◌∷◌, map,
 use Rattle.std.specs.Prelude.{◌&&◌, nat_eq, if◌then◌else◌, filter, ⊤}
 use Rattle.std.specs.List.{AllByRecursion}
 use Rattle.il_laws.specs.Clone.{Fixed}
-use Rattle.il_laws.proofs.Tests.{and_left, and_right}
+use Rattle.list_laws.proofs.Tests.{and_first, and_second}
 use Rattle.plan_laws.specs.Orders.{inserted, sorted}
 use Rattle.plan_laws.specs.Summary.{Summary, CallSite}
 use Rattle.plan_laws.specs.Groups.{fixed_of, same_fixed, Group, Member, has_key, member_of, joined, may_move, grouped, group_before}
@@ -37,8 +37,8 @@ pub record SameKey (a : ℕ) (f : List Fixed) (b : ℕ) (g : List Fixed) : Type 
 pub key_is : (a : ℕ) (f : List Fixed) (b : ℕ) (g : List Fixed) → is_key a f b g ≡ true → SameKey a f b g
 key_is a f b g e =
     record {
-      callee = eqb-true a b (and_left (nat_eq a b) (same_fixed f g) e);
-      fixed = same_fixed_is f g (and_right (nat_eq a b) (same_fixed f g) e);
+      callee = eqb-true a b (and_first (nat_eq a b) (same_fixed f g) e);
+      fixed = same_fixed_is f g (and_second (nat_eq a b) (same_fixed f g) e);
     }
 
 pub key_made : (a : ℕ) (f : List Fixed) (b : ℕ) (g : List Fixed) → SameKey a f b g → is_key a f b g ≡ true

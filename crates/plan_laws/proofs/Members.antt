@@ -14,7 +14,7 @@ use Rattle.il_laws.specs.Keeping.{Stands}
 use Rattle.il_laws.specs.Reach.{is_live}
 use Rattle.il_laws.specs.Table.{Row}
 use Rattle.il_laws.proofs.Grown.{all_to}
-use Rattle.il_laws.proofs.Tests.{and_left, and_right}
+use Rattle.list_laws.proofs.Tests.{and_first, and_second}
 use Rattle.plan_laws.specs.Summary.{Summary, summary, summaries, summary_at, CallSite, call_sites}
 use Rattle.plan_laws.specs.Choosing.{is_candidate}
 use Rattle.plan_laws.specs.Groups.{fixed_from, reads_of, fixed_of, is_empty, Group, Member, has_key, member_of, may_move, grouped, group_before, ranked_groups, clone_in, Taken, at_start, clone_of_site}
@@ -168,8 +168,8 @@ module _ (names : List ShapeRow) (limit : ℕ) (st : State) (valid : IsProgram s
     same_tests t =
         all_to (IsOf p.routines) (λ y. (nat_eq y.caller x.caller && nat_eq y.number x.number) ≡ true → t y ≡ t x) zs
         (λ y h e. ap t (same_site p.routines y x h (one_at (IsOf p.routines) zs i x at sites)
-        (eqb-true y.caller x.caller (and_left (nat_eq y.caller x.caller) (nat_eq y.number x.number) e))
-        (eqb-true y.number x.number (and_right (nat_eq y.caller x.caller) (nat_eq y.number x.number) e)))) sites
+        (eqb-true y.caller x.caller (and_first (nat_eq y.caller x.caller) (nat_eq y.number x.number) e))
+        (eqb-true y.number x.number (and_second (nat_eq y.caller x.caller) (nat_eq y.number x.number) e)))) sites
 
     -- the site is a member where it has the key
     member_is : (g : Group) → HasAll g → has_member g.members (member_of x) ≡ with_key ss main g.callee g.fixed x

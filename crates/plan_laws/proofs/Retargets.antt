@@ -16,7 +16,7 @@ use Rattle.il_core.proofs.Programs.{callee_of, routine_valid, shape_is}
 use Rattle.il_laws.proofs.Programs.{valid_calls}
 use Rattle.il_laws.proofs.Retargeted.{all_stand, retarget_serves}
 use Rattle.il_laws.proofs.Serving.{serves_itself, each_follows}
-use Rattle.il_laws.proofs.Tests.{and_left, and_right}
+use Rattle.list_laws.proofs.Tests.{and_first, and_second}
 use Rattle.plan_laws.specs.Summary.{Summary, summary_at, CallSite, numbered}
 use Rattle.plan_laws.specs.Groups.{fixed_at, fixed_from, reads_of, fixed_of, same_fixed, may_move, is_row_of, clone_in, clone_of_site, with_move, moves}
 use Rattle.plan_laws.specs.Plan.{retargeted}
@@ -36,9 +36,9 @@ same_fixed_is (x ∷ xs) [] e = let bad : false ≡ true = e in absurd cc
 same_fixed_is (x ∷ xs) (y ∷ ys) e =
     let param = nat_eq x.param y.param in
     let value = nat_eq x.word.0 y.word.0 in
-    let both = and_left (param && value) (same_fixed xs ys) e in
-    let rest = and_right (param && value) (same_fixed xs ys) e in
-    let first = same_entry x y (eqb-true x.param y.param (and_left param value both)) (eqb-true x.word.0 y.word.0 (and_right param value both)) in
+    let both = and_first (param && value) (same_fixed xs ys) e in
+    let rest = and_second (param && value) (same_fixed xs ys) e in
+    let first = same_entry x y (eqb-true x.param y.param (and_first param value both)) (eqb-true x.word.0 y.word.0 (and_second param value both)) in
     ap₂ {A = Fixed} {B = List Fixed} {C = List Fixed} (λ z zs. z ∷ zs) first (same_fixed_is xs ys rest)
 
 -- what is known at a site covers the constants of its key
@@ -78,8 +78,8 @@ row_if : (table : List Row) (P : Row → Type 0) (callee : ℕ) (fixed : List Fi
 row_if table P callee fixed clone row o true is h rest e =
     record {
       row = row;
-      callee_is = eqb-true row.callee callee (and_left (nat_eq row.callee callee) (same_fixed row.fixed fixed) is);
-      fixed_is = same_fixed_is row.fixed fixed (and_right (nat_eq row.callee callee) (same_fixed row.fixed fixed) is);
+      callee_is = eqb-true row.callee callee (and_first (nat_eq row.callee callee) (same_fixed row.fixed fixed) is);
+      fixed_is = same_fixed_is row.fixed fixed (and_second (nat_eq row.callee callee) (same_fixed row.fixed fixed) is);
       clone_is = same_Some row.clone clone e;
       holds = h;
     }

@@ -22,7 +22,7 @@ use Rattle.il_core.proofs.Found.{found_all}
 use Rattle.il_laws.proofs.Grown.{all_push, all_to, found_left}
 use Rattle.il_laws.proofs.Kept.{filter_all}
 use Rattle.il_core.proofs.Programs.{routine_valid}
-use Rattle.il_laws.proofs.Tests.{and_left, and_right}
+use Rattle.list_laws.proofs.Tests.{and_first, and_second}
 use Rattle.il_laws.proofs.Within.{simplify_within}
 use Rattle.plan_laws.specs.Orders.{greatest}
 use Rattle.plan_laws.specs.Summary.{Summary, summary, summaries, summary_at, CallSite, numbered}
@@ -106,7 +106,7 @@ module _ (names : List ShapeRow) (p : IlProgram) (valid : IsProgram p) (table : 
       let a = nat_le n.size 65536 in
       let b = nat_le n.regs 32768 in
       let c = nat_le n.arrays 4096 in
-      leb-true n.size 65536 (and_left a b (and_left (a && b) c (and_left (a && b && c) (nat_le n.elements 1048576) e)))
+      leb-true n.size 65536 (and_first a b (and_first (a && b) c (and_first (a && b && c) (nat_le n.elements 1048576) e)))
 
   fit_one : (g : Group) (gs : List Group) → Rest gs → (b : Spent) (s : Summary) (st : State) (k : Bool)
       → clone_fits b limit (clone_numbers s g.fixed) ≡ k → summary_at ss g.callee ≡ Some s → IsLimited st → Stand st
@@ -118,10 +118,10 @@ module _ (names : List ShapeRow) (p : IlProgram) (valid : IsProgram p) (table : 
       let n = clone_numbers s g.fixed in
       let cost_ok = nat_le (b.cost + n.size ^ 2) limit in
       let room = nat_lt b.routines 4096 in
-      let one = and_left (cost_ok && is_within n && room) (nat_lt b.next 131072) ek in
-      let pid = and_right (cost_ok && is_within n && room) (nat_lt b.next 131072) ek in
-      let two = and_left (cost_ok && is_within n) room one in
-      make_one g gs rest b s st e h stand (ltb-true b.next 131072 pid) (size_within n (and_right cost_ok (is_within n) two))
+      let one = and_first (cost_ok && is_within n && room) (nat_lt b.next 131072) ek in
+      let pid = and_second (cost_ok && is_within n && room) (nat_lt b.next 131072) ek in
+      let two = and_first (cost_ok && is_within n) room one in
+      make_one g gs rest b s st e h stand (ltb-true b.next 131072 pid) (size_within n (and_second cost_ok (is_within n) two))
 
   decide_one : (g : Group) (gs : List Group) → Rest gs → (b : Spent) (st : State) (o : Option ℕ) (m : Option Summary)
       → summary_at ss g.callee ≡ m → IsLimited st → Stand st
@@ -195,10 +195,10 @@ module _ (p : IlProgram) (valid : IsProgram p) (cs : List Choice) (all : AllWith
       let b = nat_le n.regs 32768 in
       let c = nat_le n.arrays 4096 in
       let d = nat_le n.elements 1048576 in
-      let size = leb-true n.size 65536 (and_left a b (and_left (a && b) c (and_left (a && b && c) d e))) in
-      let regs = leb-true n.regs 32768 (and_right a b (and_left (a && b) c (and_left (a && b && c) d e))) in
-      let arrays = leb-true n.arrays 4096 (and_right (a && b) c (and_left (a && b && c) d e)) in
-      let elements = leb-true n.elements 1048576 (and_right (a && b && c) d e) in
+      let size = leb-true n.size 65536 (and_first a b (and_first (a && b) c (and_first (a && b && c) d e))) in
+      let regs = leb-true n.regs 32768 (and_second a b (and_first (a && b) c (and_first (a && b && c) d e))) in
+      let arrays = leb-true n.arrays 4096 (and_second (a && b) c (and_first (a && b && c) d e)) in
+      let elements = leb-true n.elements 1048576 (and_second (a && b && c) d e) in
       let pid = h.pid in
       let params = h.params in
       let same_pid = serves.pid in
@@ -222,8 +222,8 @@ module _ (p : IlProgram) (valid : IsProgram p) (cs : List Choice) (all : AllWith
       → AllWithin (map (inlined_routine p.routines cs) rs)
   all_whole [] here h e = tt
   all_whole (r ∷ rs) here h e = (
-    whole_within r here.0 h.0 (and_left (test (summary r)) (list_all test (map summary rs)) e),
-    all_whole rs here.1 h.1 (and_right (test (summary r)) (list_all test (map summary rs)) e),
+    whole_within r here.0 h.0 (and_first (test (summary r)) (list_all test (map summary rs)) e),
+    all_whole rs here.1 h.1 (and_second (test (summary r)) (list_all test (map summary rs)) e),
   )
 
 -- nothing chosen: the routines' own numbers

@@ -27,7 +27,7 @@ use Rattle.il_laws.proofs.CloneValid.{clone_size}
 use Rattle.il_laws.proofs.Grown.{found_left}
 use Rattle.il_core.proofs.Programs.{routine_valid}
 use Rattle.il_laws.proofs.Charges.{simplify_no_larger}
-use Rattle.il_laws.proofs.Tests.{and_left, and_right}
+use Rattle.list_laws.proofs.Tests.{and_first, and_second}
 use Rattle.plan_laws.specs.Summary.{Summary, summary, summaries, summary_at, cost_of, CallSite, numbered}
 use Rattle.plan_laws.specs.Numbers.{Choice, falling, inlined_numbers, is_within, cost_after}
 use Rattle.plan_laws.specs.Levels.{is_acyclic}
@@ -154,9 +154,9 @@ module _ (names : List ShapeRow) (p : IlProgram) (valid : IsProgram p) (table : 
       let n = clone_numbers s g.fixed in
       let cost_ok = nat_le (b.cost + n.size ^ 2) limit in
       let room = nat_lt b.routines 4096 in
-      let one = and_left (cost_ok && is_within n && room) (nat_lt b.next 131072) ek in
-      let two = and_left (cost_ok && is_within n) room one in
-      let three = and_left cost_ok (is_within n) two in
+      let one = and_first (cost_ok && is_within n && room) (nat_lt b.next 131072) ek in
+      let two = and_first (cost_ok && is_within n) room one in
+      let three = and_first cost_ok (is_within n) two in
       make_cost g gs rest b s st e le (leb-true (b.cost + n.size ^ 2) limit three) stand
 
   decide_cost : (g : Group) (gs : List Group) → Rest gs → (b : Spent) (st : State) (o : Option ℕ) (m : Option Summary)
@@ -204,7 +204,7 @@ module _ (ss : List Summary) (main limit : ℕ) where
   accepted_holds P h cs (x ∷ xs) g =
       let ds = cs ++ chosen_site x ∷ [] in
       take_if P (is_candidate main x && may_inline ss limit ds) (accepted ss main limit ds xs) (accepted ss main limit cs xs)
-      (λ k. accepted_holds P h ds xs (h ds (and_right (is_candidate main x) (may_inline ss limit ds) k)))
+      (λ k. accepted_holds P h ds xs (h ds (and_second (is_candidate main x) (may_inline ss limit ds) k)))
       (accepted_holds P h cs xs g)
 
 chosen_cost : (budget limit : ℕ) (st : State) → IsProgram st.program → cost st.program.routines ≤ limit
@@ -220,7 +220,7 @@ chosen_cost (suc budget) limit st valid le =
     let start = inlined_cost p valid [] in
     let done = accepted_holds ss main limit (λ cs. cost_after ss cs ≤ limit)
     (λ cs e. leb-true (cost_after ss cs) limit
-    (and_right (is_acyclic cs && list_all (λ s. is_within (inlined_numbers ss cs s)) ss) (nat_le (cost_after ss cs) limit) e))
+    (and_second (is_acyclic cs && list_all (λ s. is_within (inlined_numbers ss cs s)) ss) (nat_le (cost_after ss cs) limit) e))
     [] (ranked_sites ss) (omega arith) in
     let whole = inlined_cost p valid (choice ss main limit) in
     omega arith

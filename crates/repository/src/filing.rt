@@ -9,6 +9,7 @@ use crate::places::{read_range, write_range};
 use outside::{Disk, Failed};
 use sha2::{Digest, Sha256};
 use std::alloc::{AllocError, Global};
+use thiserror::Error;
 
 /// Where bytes were filed: their first place, how many they are, and their SHA-256.
 #[derive(Clone, Copy, Debug, PartialEq, Eq)]
@@ -19,13 +20,16 @@ pub struct Filed {
 }
 
 /// Why bytes weren't filed or fetched.
-#[derive(Clone, Copy, Debug, PartialEq, Eq)]
+#[derive(Clone, Copy, Debug, Drop, PartialEq, Eq, Error)]
 pub enum RepoFault {
     /// The disk failed; its count rose.
+    #[error("the disk failed")]
     Failed,
     /// The bytes read have another SHA-256 than the one that was kept.
+    #[error("the record has other bytes than those filed")]
     Damaged { kept: [u8; 32], found: [u8; 32] },
     /// Memory ran out.
+    #[error("out of memory")]
     Memory,
 }
 

@@ -14,7 +14,8 @@ use Rattle.sym_tables.specs.Symbols.{met, is_open, routine_part, element_part}
 use Rattle.sym_tables.specs.Table.{Table, given, symbol_at, is_past_limits, is_wide}
 use Rattle.sym_tables.proofs.Least.{least_used, least_met, least_added}
 use Rattle.sym_tables.proofs.Limits.{within, not_past}
-use Rattle.sym_tables.proofs.Lists.{any_none, any_set, all_at, values_set, length_values}
+use Rattle.list_laws.proofs.Elements.{any_none, any_set, all_at}
+use Rattle.sym_tables.proofs.Values.{values_set, length_values}
 use Rattle.sym_tables.proofs.Meets.{closed_met, fits_met}
 use Rattle.sym_tables.proofs.Tables.{kept_set, kept_added, routines_set, elements_set}
 

@@ -5,8 +5,9 @@ use Rattle.std.specs.Map.{keys_of}
 use Rattle.indexmap.proofs.MapLemmas.{Found-position, Missing-position}
 use Rattle.sym_tables.specs.declared.symbol.Symbol.{Symbol}
 use Rattle.sym_tables.specs.Table.{Table, same_name, pid_of, symbol_of}
-use Rattle.sym_tables.proofs.Firsts.{first_found, none_found}
-use Rattle.sym_tables.proofs.Lists.{front_more, value_at}
+use Rattle.list_laws.proofs.Firsts.{first_found, none_found}
+use Rattle.list_laws.proofs.Elements.{front_more}
+use Rattle.sym_tables.proofs.Values.{value_at}
 
 abbrev pub IsOther : List ℕ → List ℕ → Type 0
 IsOther name key = same_name name key ≡ false

@@ -4,7 +4,7 @@ use Rattle.std.specs.List.{AllByRecursion, slice_get, slice_set}
 use Rattle.std.proofs.lemmas.Bool.Decides.{nat_tests}
 use Rattle.sym_tables.specs.declared.symbol.Symbol.{Symbol}
 use Rattle.sym_tables.specs.Symbols.{is_open}
-use Rattle.sym_tables.proofs.Lists.{front_set, front_less, front_more, front_at, front_added, get_set, get_added}
+use Rattle.list_laws.proofs.Elements.{front_set, front_less, front_more, front_at, front_added, get_set, get_added}
 
 abbrev pub IsClosed : Symbol → Type 0
 IsClosed s = is_open s ≡ false

@@ -2,12 +2,11 @@ pub mod Agreement
 pub mod Changes
 pub mod Entries
 pub mod Finds
-pub mod Firsts
 pub mod Least
 pub mod Limits
 pub mod Listings
-pub mod Lists
 pub mod Meets
 pub mod Refusals
 pub mod Samples
 pub mod Tables
+pub mod Values

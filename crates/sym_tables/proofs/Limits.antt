@@ -4,6 +4,7 @@ use Rattle.std.proofs.lemmas.Bool.Decides.{nat_tests}
 use Rattle.std.specs.List.{list_any}
 use Rattle.std.specs.Map.{values_of}
 use Rattle.il_core.specs.Limits.{max_elements, max_names, max_parameters, max_routines}
+use Rattle.list_laws.proofs.Tests.{or_first, or_second}
 use Rattle.sym_tables.specs.Table.{Table, routines, elements, is_wide, is_past_limits}
 
 -- no limit is passed
@@ -12,14 +13,6 @@ pub record Within (syms : Table) : Type 0 where
   pub routines_few : routines syms ≤ max_routines
   pub elements_few : elements syms ≤ max_elements
   pub narrow : list_any is_wide (values_of syms) ≡ false
-
-or_left : (a b : Bool) → (a || b) ≡ false → a ≡ false
-or_left true b h = h
-or_left false b h = refl
-
-or_right : (a b : Bool) → (a || b) ≡ false → b ≡ false
-or_right true b h = let c : true ≡ false = h in absurd cc
-or_right false b h = h
 
 pub at_most : (m n : ℕ) → nat_lt m n ≡ false → n ≤ m
 at_most m n h = grind (arith, nat_tests)
@@ -30,12 +23,12 @@ not_above m n h = grind (arith, nat_tests)
 pub within : (syms : Table) → is_past_limits syms ≡ false → Within syms
 within syms h =
     let n = nat_lt max_names (length syms) in let r = nat_lt max_routines (routines syms) in let e = nat_lt max_elements (elements syms) in let w = list_any is_wide (values_of syms) in
-    let nre = or_left (n || r || e) w h in let nr = or_left (n || r) e nre in
+    let nre = or_first (n || r || e) w h in let nr = or_first (n || r) e nre in
     record {
-      names = at_most max_names (length syms) (or_left n r nr);
-      routines_few = at_most max_routines (routines syms) (or_right n r nr);
-      elements_few = at_most max_elements (elements syms) (or_right (n || r) e nre);
-      narrow = or_right (n || r || e) w h;
+      names = at_most max_names (length syms) (or_first n r nr);
+      routines_few = at_most max_routines (routines syms) (or_second n r nr);
+      elements_few = at_most max_elements (elements syms) (or_second (n || r) e nre);
+      narrow = or_second (n || r || e) w h;
     }
 
 pub not_past : (syms : Table) → Within syms → is_past_limits syms ≡ false

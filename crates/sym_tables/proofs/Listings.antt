@@ -15,7 +15,7 @@ use Rattle.sym_tables.specs.Entities.{parameters}
 use Rattle.sym_tables.specs.Listing.{shape_of, shapes_from, shapes, objects_at, objects_from, objects, trimmed, before}
 use Rattle.sym_tables.specs.Table.{Table, is_wide}
 use Rattle.sym_tables.proofs.Limits.{at_most}
-use Rattle.sym_tables.proofs.Lists.{any_none}
+use Rattle.list_laws.proofs.Elements.{any_none}
 
 shapes_suc : (n i : ℕ) (es : Table) (k : List ℕ) (s : Symbol) → slice_get es i ≡ Some (k, s) → shapes_from n (take (suc i) es) ≡ shapes_from n (take i es) ++ (record { pid = n + i; name = k; shape = shape_of s.entity }) ∷ []
 shapes_suc n zero [] k s h = let o : Option (List ℕ × Symbol) = None in let c : o ≡ Some (k, s) = h in absurd cc

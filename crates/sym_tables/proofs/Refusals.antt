@@ -14,7 +14,8 @@ use Rattle.sym_tables.specs.Sound.{IsKept}
 use Rattle.sym_tables.specs.Symbols.{met, is_defined, routine_part, element_part}
 use Rattle.sym_tables.specs.Table.{Table, symbol_at, refusal_of, is_past_limits, is_wide}
 use Rattle.sym_tables.proofs.Limits.{within, past_is}
-use Rattle.sym_tables.proofs.Lists.{any_none, any_set, values_set}
+use Rattle.list_laws.proofs.Elements.{any_none, any_set}
+use Rattle.sym_tables.proofs.Values.{values_set}
 use Rattle.sym_tables.proofs.Meets.{narrow_met}
 use Rattle.sym_tables.proofs.Tables.{routines_set, elements_set, routines_added, elements_added, length_added, wide_added}
 

@@ -11,7 +11,8 @@ use Rattle.std.specs.Map.Iter.{deref_pair}
 use Rattle.std.specs.Option.{option_map, option_copied_mut}
 use Rattle.sym_tables.specs.Table.{Table, given, initialised, mark, routines, elements, is_wide, is_past_limits, symbol_at}
 use Rattle.sym_tables.proofs.Limits.{Within}
-use Rattle.sym_tables.proofs.Lists.{values_set, values_added, sum_set, sum_added, part_le, any_added, all_set, all_added, value_at}
+use Rattle.list_laws.proofs.Elements.{sum_set, sum_added, part_le, any_added, all_set, all_added}
+use Rattle.sym_tables.proofs.Values.{values_set, values_added, value_at}
 
 abbrev r_of : Symbol → ℕ
 r_of s = routine_part s.entity s.standing

@@ -9,17 +9,10 @@ use Rattle.std.proofs.lemmas.Bool.{ne_eqb, eqb-false, cases_lt, lt-ltb, le-ltb}
 use Rattle.std.proofs.lemmas.Str.{IsUtf8-from_ascii}
 use Rattle.std.proofs.lemmas.Str.Parse.{IsNumeralModel, numerals_by_value, tells_digits, digit_at, parse_plain}
 use Rattle.std.proofs.lemmas.Fmt.{decimal_digit, first_decimal, digits_decimal, decimal-digits_value, decimal_injective, decimal_nonempty, IsAscii-decimal, parse-decimal}
+use Rattle.list_laws.proofs.Tests.{or_first, or_second}
 use Rattle.hlo_num.specs.Words.{signed}
 use Rattle.hlo_num.specs.declared.word.Word.{Word}
 use Rattle.text_lines.specs.Numerals.{is_padded}
-
-or_left : (p q : Bool) → (p || q) ≡ false → p ≡ false
-or_left true q h = h
-or_left false q h = refl
-
-or_right : (p q : Bool) → (p || q) ≡ false → q ≡ false
-or_right true q h = absurd (cc)
-or_right false q h = h
 
 own : IsNumeralModel (AllDigits 10) (digits_value 10)
 own = numerals_by_value (AllDigits 10) tells_digits
@@ -49,12 +42,12 @@ decimal_utf8 n lt = IsUtf8-from_ascii (decimal n) (IsAscii-decimal n lt)
 no_plus : (bs : List ℕ) → is_padded bs ≡ false → get_or bs 0 0 ≢ 43
 no_plus [] h e = absurd (omega (arith, e))
 no_plus (b ∷ []) h e = eqb-false b 43 h e
-no_plus (b ∷ c ∷ bs) h e = eqb-false b 43 (or_left (b == 43) (b == 48) h) e
+no_plus (b ∷ c ∷ bs) h e = eqb-false b 43 (or_first (b == 43) (b == 48) h) e
 
 no_zero : (bs : List ℕ) → is_padded bs ≡ false → 0 < length bs → get_or bs 0 0 ≡ 48 → length bs ≡ 1
 no_zero [] h some e = absurd (omega arith)
 no_zero (b ∷ []) h some e = refl
-no_zero (b ∷ c ∷ bs) h some e = absurd (eqb-false b 48 (or_right (b == 43) (b == 48) h) e)
+no_zero (b ∷ c ∷ bs) h some e = absurd (eqb-false b 48 (or_second (b == 43) (b == 48) h) e)
 
 -- digits that are read spell what is read, where nothing pads them
 pub read_is_spelled : {E : Type 0} (bs : List ℕ) (r : Result ℕ E) (o : Option ℕ) → o ≡ result_ok r → ParsesUnsigned 32 10 bs r → IfSome o (λ n. is_padded bs ≡ false → bs ≡ decimal n)

@@ -10,7 +10,7 @@ use Rattle.il_laws.specs.Known.{known_in}
 use Rattle.const_prop.specs.Sites.{words_of}
 use Rattle.const_prop.specs.Tables.{IsValidRoutine, NamesRegisters, Has, facts_in}
 use Rattle.const_prop.specs.Flow.{start_of}
-use Rattle.const_prop.proofs.Lists.{drop_read}
+use Rattle.list_laws.proofs.Elements.{drop_read}
 use Rattle.const_prop.proofs.BlockSteps.{named_block}
 use Rattle.const_prop.proofs.SiteSteps.{PuttingAll, words_in, put_next, put_all}
 use Rattle.const_prop.proofs.Whole.{named_as}

@@ -1,7 +1,7 @@
 use Rattle.std.proofs.Common.{◌≡◌, nat_eq, ◌∷◌, [], ◌++◌, Some, None, sym, ap, subst, ◌∙◌, refl}
 use Rattle.std.specs.Map.{lookup}
 use Rattle.naim_core.specs.Table.{pools_in}
-use Rattle.naim_core.proofs.Maps.{other_number}
+use Rattle.list_laws.proofs.Entries.{other_number}
 use Rattle.naim_core.proofs.Walks.{slot_here, front_step, none_pushed}
 use Rattle.naim_core.proofs.table.scan.Goals as goal
 

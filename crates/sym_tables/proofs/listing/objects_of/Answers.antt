@@ -2,7 +2,7 @@ use Rattle.std.proofs.Common.{ap, sym, ◌∙◌, ◌++◌}
 use Rattle.std.specs.Map.{values_of}
 use Rattle.sym_tables.specs.Sound.{FitsWords}
 use Rattle.sym_tables.specs.Listing.{objects_at}
-use Rattle.sym_tables.proofs.Lists.{all_at}
+use Rattle.list_laws.proofs.Elements.{all_at}
 use Rattle.sym_tables.proofs.Listings.{objects_more}
 use Rattle.sym_tables.proofs.Tables.{found_at, known_at}
 use Rattle.sym_tables.proofs.listing.objects_of.Goals as goal

@@ -7,7 +7,7 @@ use Rattle.naim_core.specs.Steps.{front, in_place}
 use Rattle.naim_core.specs.View.{core_of}
 use Rattle.naim_core.proofs.Bounds.{sums_fit}
 use Rattle.naim_core.proofs.Kept.{kept_hand}
-use Rattle.naim_core.proofs.Maps.{number_itself, lookup_set}
+use Rattle.list_laws.proofs.Entries.{number_itself, lookup_set}
 use Rattle.naim_core.proofs.state.CoreState.change_first.Goals as goal
 
 pub put_first-requires-clause-held_fits : goal.put_first-requires-clause-held_fits

@@ -7,7 +7,7 @@ use Rattle.naim_core.specs.Steps.{front}
 use Rattle.naim_core.specs.View.{core_of}
 use Rattle.naim_core.proofs.Bounds.{sums_fit}
 use Rattle.naim_core.proofs.Kept.{kept_done, done_room}
-use Rattle.naim_core.proofs.Maps.{number_itself}
+use Rattle.list_laws.proofs.Entries.{number_itself}
 use Rattle.naim_core.proofs.state.CoreState.finish_task.Goals as goal
 
 pub put_first-requires-clause-held_fits : goal.put_first-requires-clause-held_fits

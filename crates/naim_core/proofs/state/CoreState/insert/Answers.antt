@@ -13,7 +13,7 @@ use Rattle.naim_core.specs.declared.pool.Pool.{Pool}
 use Rattle.naim_core.proofs.Bounds.{sums_fit}
 use Rattle.naim_core.proofs.Cuts.{kept_pools}
 use Rattle.naim_core.proofs.Events.{insert_sound, permit_gives, permit_ok}
-use Rattle.naim_core.proofs.Maps.{number_itself}
+use Rattle.list_laws.proofs.Entries.{number_itself}
 use Rattle.naim_core.proofs.state.CoreState.insert.Goals as goal
 
 pub add-requires-clause-held_fits : goal.add-requires-clause-held_fits

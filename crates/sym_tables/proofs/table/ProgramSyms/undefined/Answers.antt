@@ -2,9 +2,10 @@ use Rattle.std.proofs.Common.{sym, ap, ◌∙◌, arith}
 use Rattle.std.specs.Map.{values_of}
 use Rattle.sym_tables.specs.Table.{first_open}
 use Rattle.sym_tables.specs.Symbols.{is_open}
-use Rattle.sym_tables.proofs.Firsts.{first_found, none_found}
+use Rattle.list_laws.proofs.Firsts.{first_found, none_found}
 use Rattle.sym_tables.proofs.Least.{IsClosed}
-use Rattle.sym_tables.proofs.Lists.{front_more, length_values}
+use Rattle.list_laws.proofs.Elements.{front_more}
+use Rattle.sym_tables.proofs.Values.{length_values}
 use Rattle.sym_tables.proofs.Tables.{known_at}
 use Rattle.sym_tables.proofs.table.ProgramSyms.undefined.Goals as goal
 

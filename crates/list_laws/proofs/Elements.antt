@@ -1,18 +1,9 @@
--- Lists after an element was replaced or added.
-use Rattle.std.proofs.Common.{◌≡◌, ℕ, zero, suc, ◌+◌, ◌<◌, ◌≤◌, Bool, true, false, ◌||◌, List, [], ◌∷◌, ◌++◌, length, take, Option, Some, None, refl, sym, ap, ◌∙◌, subst, arith, sum_by, add-one}
+-- Lists after an element was replaced or added, and from a place on.
+use Rattle.std.proofs.Common.{◌≡◌, ℕ, zero, suc, ◌+◌, ◌<◌, ◌≤◌, Bool, true, false, ◌||◌, List, [], ◌∷◌, ◌++◌, length, take, drop, get_or, Some, None, refl, sym, ap, ◌∙◌, subst, arith, sum_by, add-one, append_assoc}
 use Rattle.std.specs.List.{AllByRecursion, list_any, slice_get, slice_set}
-use Rattle.std.specs.Map.{values_of}
+use Rattle.std.proofs.lemmas.List.{drop_more, get_or_read}
 use Rattle.std.proofs.lemmas.List.Sums.{sum_by-cons}
-use Rattle.indexmap.specs.Layout.{set_value_at}
-
-pub values_set : {K X : Type 0} (es : List (K × X)) (i : ℕ) (v : X) → values_of (set_value_at es i v) ≡ slice_set (values_of es) i v
-values_set [] i v = refl
-values_set (e ∷ es) zero v = refl
-values_set (e ∷ es) (suc i) v = ap (λ l. e.1 ∷ l) (values_set es i v)
-
-pub values_added : {K X : Type 0} (es : List (K × X)) (e : K × X) → values_of (es ++ e ∷ []) ≡ values_of es ++ e.1 ∷ []
-values_added [] e = refl
-values_added (x ∷ es) e = ap (λ l. x.1 ∷ l) (values_added es e)
+use Rattle.list_laws.proofs.Tests.{or_first, or_second}
 
 pub sum_set : {X : Type 0} (f : X → ℕ) (xs : List X) (i : ℕ) (x v : X) → slice_get xs i ≡ Some x → sum_by f (slice_set xs i v) + f x ≡ sum_by f xs + f v
 sum_set f [] i x v h = let c : None ≡ Some x = h in absurd cc
@@ -31,27 +22,19 @@ part_le f [] i x h = let c : None ≡ Some x = h in absurd cc
 part_le f (y ∷ xs) zero x h = let e : y ≡ x = (let c : Some y ≡ Some x = h in cc) in let a = sum_by-cons f y xs in let k = ap f e in omega arith
 part_le f (y ∷ xs) (suc i) x h = let a = sum_by-cons f y xs in let k = part_le f xs i x h in omega arith
 
-or_left : (a b : Bool) → (a || b) ≡ false → a ≡ false
-or_left true b h = h
-or_left false b h = refl
-
-or_right : (a b : Bool) → (a || b) ≡ false → b ≡ false
-or_right true b h = let c : true ≡ false = h in absurd cc
-or_right false b h = h
-
 pub any_set : {X : Type 0} (p : X → Bool) (xs : List X) (i : ℕ) (v : X) → list_any p xs ≡ false → p v ≡ false → list_any p (slice_set xs i v) ≡ false
 any_set p [] i v h k = h
-any_set p (y ∷ xs) zero v h k = let r = or_right (p y) (list_any p xs) h in rw (k, r) refl
-any_set p (y ∷ xs) (suc i) v h k = let l = or_left (p y) (list_any p xs) h in let r = any_set p xs i v (or_right (p y) (list_any p xs) h) k in rw (l, r) refl
+any_set p (y ∷ xs) zero v h k = let r = or_second (p y) (list_any p xs) h in rw (k, r) refl
+any_set p (y ∷ xs) (suc i) v h k = let l = or_first (p y) (list_any p xs) h in let r = any_set p xs i v (or_second (p y) (list_any p xs) h) k in rw (l, r) refl
 
 pub any_added : {X : Type 0} (p : X → Bool) (xs : List X) (v : X) → list_any p xs ≡ false → list_any p (xs ++ v ∷ []) ≡ p v
 any_added p [] v h = elim (p v) as (λ b. (b || false) ≡ b) [ true ↦ refl | false ↦ refl ]
-any_added p (y ∷ xs) v h = let l = or_left (p y) (list_any p xs) h in let r = any_added p xs v (or_right (p y) (list_any p xs) h) in rw (l, r) refl
+any_added p (y ∷ xs) v h = let l = or_first (p y) (list_any p xs) h in let r = any_added p xs v (or_second (p y) (list_any p xs) h) in rw (l, r) refl
 
 pub any_none : {X : Type 0} (p : X → Bool) (xs : List X) (i : ℕ) (x : X) → list_any p xs ≡ false → slice_get xs i ≡ Some x → p x ≡ false
 any_none p [] i x h k = let c : None ≡ Some x = k in absurd cc
-any_none p (y ∷ xs) zero x h k = let e : y ≡ x = (let c : Some y ≡ Some x = k in cc) in ap p (sym e) ∙ or_left (p y) (list_any p xs) h
-any_none p (y ∷ xs) (suc i) x h k = any_none p xs i x (or_right (p y) (list_any p xs) h) k
+any_none p (y ∷ xs) zero x h k = let e : y ≡ x = (let c : Some y ≡ Some x = k in cc) in ap p (sym e) ∙ or_first (p y) (list_any p xs) h
+any_none p (y ∷ xs) (suc i) x h k = any_none p xs i x (or_second (p y) (list_any p xs) h) k
 
 pub all_set : {X : Type 0} (P : X → Type 0) (xs : List X) (i : ℕ) (v : X) → AllByRecursion P xs → P v → AllByRecursion P (slice_set xs i v)
 all_set P [] i v h k = tt
@@ -120,11 +103,14 @@ all_of_front P n [] l h = tt
 all_of_front P zero (y ∷ xs) l h = absurd (omega arith)
 all_of_front P (suc n) (y ∷ xs) l h = (h.0, all_of_front P n xs (omega arith) h.1)
 
-pub value_at : {K X : Type 0} (es : List (K × X)) (i : ℕ) (k : K) (v : X) → slice_get es i ≡ Some (k, v) → slice_get (values_of es) i ≡ Some v
-value_at {K} {X} [] i k v h = let o : Option (K × X) = None in let c : o ≡ Some (k, v) = h in absurd cc
-value_at {K} {X} (e ∷ es) zero k v h = let c : Some e ≡ Some (k, v) = h in let d : e ≡ (k, v) = cc in ap (λ (p : K × X). Some p.1) d
-value_at (e ∷ es) (suc i) k v h = value_at es i k v h
+pub drop_read : {X : Type 0} (xs : List X) (k : ℕ) (x : X) → k < length xs → x ≡ get_or xs k x → drop k xs ≡ x ∷ drop (k + 1) xs
+drop_read {X} xs k x lt e = drop_more xs k x lt ∙ ap (λ (y : X). y ∷ drop (k + 1) xs) (sym (get_or_read xs k x lt e x))
 
-pub length_values : {K X : Type 0} (es : List (K × X)) → length (values_of es) ≡ length es
-length_values [] = refl
-length_values (e ∷ es) = ap suc (length_values es)
+pub all_drop : {X : Type 0} (P : X → Type 0) (k : ℕ) (xs : List X) → AllByRecursion P xs → AllByRecursion P (drop k xs)
+all_drop P zero xs h = h
+all_drop P (suc k) [] h = h
+all_drop P (suc k) (x ∷ xs) h = all_drop P k xs h.1
+
+-- one more element at the end of those before
+pub onto : {X : Type 0} (us : List X) (c : X) (cs : List X) → (us ++ c ∷ []) ++ cs ≡ us ++ c ∷ cs
+onto us c cs = append_assoc us (c ∷ []) cs
