@@ -1,7 +1,13 @@
-//! Profiles: how often each routine of a program is entered, and how often each of its call sites is passed.
-//! So far there is the flat profile alone, in which every count is 1.
+//! Profiles: how often each routine of a program is entered, and how often each of its call sites is passed; their
+//! text both ways.
 #![tactic(auto)]
 
 mod counts;
+mod fault;
+mod line;
+mod reading;
+mod tally;
 
 pub use counts::Profile;
+pub use fault::ProfFault;
+pub use reading::read;
