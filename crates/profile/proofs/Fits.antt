@@ -40,7 +40,7 @@ next (l ∷ ls) [] line more a b nf e =
     absurd (not_end l a.0 (sym q.0))
 next (l ∷ ls) (m ∷ ms) line more a b nf e =
     let q = same_line (line_bytes m) (line_bytes l) (lines_text ms ++ tail) (lines_text ls ++ (line ++ 10 ∷ more)) (no_feed m b.0) (no_feed l a.0)
-        (sym (split m ms tail) ∙ e ∙ split l ls (line ++ 10 ∷ more)) in
+    (sym (split m ms tail) ∙ e ∙ split l ls (line ++ 10 ∷ more)) in
     next ls ms line more a.1 b.1 nf q.1
 
 -- nothing stands behind the last line
@@ -55,7 +55,7 @@ behind_end (l ∷ ls) [] z a b e =
     absurd (not_end l a.0 (sym q.0))
 behind_end (l ∷ ls) (m ∷ ms) z a b e =
     let q = same_line (line_bytes m) (line_bytes l) (lines_text ms ++ tail) (lines_text ls ++ (codes "end" ++ 10 ∷ z)) (no_feed m b.0) (no_feed l a.0)
-        (sym (split m ms tail) ∙ e ∙ split l ls (codes "end" ++ 10 ∷ z)) in
+    (sym (split m ms tail) ∙ e ∙ split l ls (codes "end" ++ 10 ∷ z)) in
     behind_end ls ms z a.1 b.1 q.1
 
 -- each text has a whole line behind its lines
@@ -68,7 +68,7 @@ unfinished (l ∷ ls) [] rest a b nf e =
     not_end l a.0 (sym q.0)
 unfinished (l ∷ ls) (m ∷ ms) rest a b nf e =
     let q = same_line (line_bytes m) (line_bytes l) (lines_text ms ++ tail) (lines_text ls ++ rest) (no_feed m b.0) (no_feed l a.0)
-        (sym (split m ms tail) ∙ e ∙ split l ls rest) in
+    (sym (split m ms tail) ∙ e ∙ split l ls rest) in
     unfinished ls ms rest a.1 b.1 nf q.1
 
 -- the lines that were read, with the first one

@@ -104,7 +104,11 @@ impl Profile {
     }
 }
 
-fn set_entry_in(names: &mut IndexMap<Name, Tally>, name: &Name, count: u32) -> Result<(), AllocError>
+fn set_entry_in(
+    names: &mut IndexMap<Name, Tally>,
+    name: &Name,
+    count: u32,
+) -> Result<(), AllocError>
     ensures set { OnOk result (names.new.entries ≡ with_entry name.now count names.old.entries) }
     ensures kept { OnErr result (names.new.entries ≡ names.old.entries) }
 {
@@ -122,7 +126,12 @@ fn set_entry_in(names: &mut IndexMap<Name, Tally>, name: &Name, count: u32) -> R
     }
 }
 
-fn set_site_in(names: &mut IndexMap<Name, Tally>, name: &Name, k: u32, count: u32) -> Result<(), AllocError>
+fn set_site_in(
+    names: &mut IndexMap<Name, Tally>,
+    name: &Name,
+    k: u32,
+    count: u32,
+) -> Result<(), AllocError>
     ensures set { OnOk result (names.new.entries ≡ with_site name.now k count names.old.entries) }
     ensures kept { OnErr result (names.new.entries ≡ names.old.entries) }
 {
