@@ -1,3 +1,5 @@
 pub mod Folding
 pub mod Keeping
 pub mod Spreading
+pub mod Words
+pub mod Thinning
