@@ -1,11 +1,11 @@
 -- Dead writes dropped, from the last instruction to the first, and from the last block to the first.
-use Rattle.std.proofs.Common.{◌≡◌, ◌≢◌, ℕ, zero, suc, ◌+◌, ◌-◌, ◌*◌, ◌^◌, ◌<◌, ◌≤◌, List, [], ◌∷◌, ◌++◌, get_or, set, take, drop, length, Bool, true, false, refl, ap, subst, sym, ◌∙◌, arith, inl, inr, append_assoc, slice_get}
+use Rattle.std.proofs.Common.{◌≡◌, ℕ, zero, suc, ◌+◌, ◌-◌, ◌*◌, ◌^◌, ◌<◌, ◌≤◌, List, [], ◌∷◌, ◌++◌, get_or, set, take, drop, length, Bool, true, false, refl, ap, subst, sym, ◌∙◌, arith, inl, inr, append_assoc, slice_get}
 use Rattle.std.specs.Prelude.{reverse, not, nat_eq, ◌||◌, Option, Some, None, if◌then◌else◌}
 use Rattle.std.specs.List.{AllByRecursion}
 use Rattle.std.proofs.Math.Nat.{mul-le-mul_right, mul_comm}
 use Rattle.std.proofs.lemmas.Bool.{cases_eq, cases_lt}
 use Rattle.std.proofs.lemmas.List.{reverse-append, drop-take, set_at, length-take-le, take_more, drop_more, get_or_append_left, get_or-take, append-nil, take_all, drop_all, get_or_default, take_at}
-use Rattle.std.proofs.lemmas.Slice.{take-put_mid_below, drop-put_mid, between-put_mid}
+use Rattle.std.proofs.lemmas.Slice.{take-put_mid_below, drop-put_mid}
 use borrow.Rule.Slice.PartMut.{put_mid}
 use mathlib.Core.Path.{fun_ext}
 use Rattle.il_core.specs.declared.instr.Block.{Block}
@@ -59,7 +59,8 @@ pub record Thinned (n : ℕ) (was : List Instr) (behind : Live) (is room : List 
   pub kept : (alive is now ++ reverse room) ≡ alive was behind
   pub live : (x : ℕ) → live_through is now x ≡ live_through was behind x
 
-module _ (n : ℕ) (was : List Instr) (live : Live) (js is room : List Instr) (i : Instr) (now new : Live) (pop : js ≡ is ++ i ∷ []) (k : Thinned n was live js room now) (step : (x : ℕ) → new x ≡ live_before i now x) where
+module _ (n : ℕ) (was : List Instr) (live : Live) (js is room : List Instr) (i : Instr) (now new : Live) (pop : js ≡ is ++ i ∷ [])
+    (k : Thinned n was live js room now) (step : (x : ℕ) → new x ≡ live_before i now x) where
   same : new ≡ live_before i now
   same = fun_ext step
 
@@ -191,7 +192,7 @@ thin_start bs now w rows e =
       live = λ t le lt x. absurd (omega arith);
     }
 
-forward_end : (n b : ℕ) (e : End) → GoesForward n b e → IsForward b e
+pub forward_end : (n b : ℕ) (e : End) → GoesForward n b e → IsForward b e
 forward_end n b (ends.Jump t) h = h.0.0
 forward_end n b (ends.Branch r t u) h = (h.0.0, h.1.0.0)
 forward_end n b (ends.Loop t) h = tt
@@ -229,7 +230,8 @@ read_next bs now w n b rows x next h read =
     ∙ get_or_append_left (take n bs) (alive_blocks bs (live_at bs) (drop n bs)) x b (omega arith) ∙ get_or-take n bs b x (omega arith) in
     drop_read bs b x (omega arith) old
 
-module _ (bs now : List Block) (w n b : ℕ) (rows : List ℕ) (x : Block) (fw : GoForward bs) (next : n ≡ suc b) (h : ThinnedFrom bs w n rows now) (read : x ≡ get_or now b x) where
+module _ (bs now : List Block) (w n b : ℕ) (rows : List ℕ) (x : Block) (fw : GoForward bs) (next : n ≡ suc b) (h : ThinnedFrom bs w n rows now)
+    (read : x ≡ get_or now b x) where
   here : drop b bs ≡ x ∷ drop (b + 1) bs
   here = read_next bs now w n b rows x next h read
 

@@ -1,7 +1,4 @@
-use Rattle.std.proofs.Common.{ℕ, ◌*◌, ◌≤◌, ◌∙◌, subst, sym, arith, length}
-use Rattle.std.proofs.lemmas.Grind.{div_ceil_times}
-use Rattle.const_prop.specs.Tables.{AreNamed}
-use Rattle.cleanup.specs.Ends.{EndsRead}
+use Rattle.std.proofs.Common.{◌*◌, arith, length}
 use Rattle.cleanup.proofs.Thinning.{blocks_wide, ends_wide}
 use Rattle.cleanup.proofs.dead.drop_dead.Goals as goal
 

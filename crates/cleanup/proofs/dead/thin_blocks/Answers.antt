@@ -19,7 +19,8 @@ loop-b-preserved c =
     record {
       thinned = thin_step c.args.blocks.now c.loop-b.blocks (length c.args.set.now) c.loop-b.b c.loop-b.rows c.index-blocks-b-in-loop-b.result
           c.loop-b-test.true c.loop-b.auto.blocks c.loop-b.invariant.thinned c.index-blocks-b-in-loop-b.is c.put_row.new.rows c.args.read.now
-          c.put_live.new.set c.thin_block.new.set (length c.loop-b.set) (length c.thin_block.new.set) c.index-blocks-b.result c.thin_block.new.block c.requires.forward c.loop-b.auto.set
+          c.put_live.new.set c.thin_block.new.set (length c.loop-b.set) (length c.thin_block.new.set)
+          c.index-blocks-b.result c.thin_block.new.block c.requires.forward c.loop-b.auto.set
           (c.thin_block.auto.set ∙ c.put_live.auto.set ∙ c.loop-b.auto.set) c.index-blocks-b.is c.requires.reads c.put_live.ensures
           c.in_ok-thin_block.ensures.block c.in_ok-thin_block.ensures.live c.put_row.ensures.here c.put_row.ensures.others;
       room = c.in_ok-thin_block.ensures.room;
