@@ -1,0 +1,8 @@
+//! The call graph of a program: what the plan knows of each routine, and which routines are reached by calls.
+#![tactic(auto)]
+
+mod calls;
+mod reads;
+mod summary;
+
+pub use summary::{Site, Summary, summarise};
