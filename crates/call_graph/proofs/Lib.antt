@@ -1,1 +1,2 @@
 pub mod Summarised
+pub mod Placing

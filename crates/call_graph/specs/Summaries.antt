@@ -1,5 +1,5 @@
 -- Summaries as the laws of the plan see them.
-use Rattle.std.specs.Prelude.{map}
+use Rattle.std.specs.Prelude.{ℕ, zero, suc, Bool, false, List, [], ◌∷◌, map, nat_eq, nat_lt, if◌then◌else◌}
 use Rattle.il_laws.specs.Known.{KnownSite}
 use Rattle.const_prop.specs.Sites.{words_at}
 use Rattle.plan_laws.specs.Summary as plan
@@ -26,3 +26,23 @@ summary_of s =
       start_loop = s.start_loop;
       sites = map site_of s.sites;
     }
+
+-- what the plan knows of a routine
+abbrev pub Seen : Type 0
+Seen = plan.Summary
+
+-- A routine's summary in the place of its former one, or where its PID comes among the others.
+abbrev pub put : Seen → List Seen → List Seen
+put s [] = s ∷ []
+put s (x ∷ xs) = if nat_lt s.pid x.pid then s ∷ x ∷ xs else (if nat_eq s.pid x.pid then s ∷ xs else x ∷ put s xs)
+
+-- all summaries but that of a routine
+abbrev pub without : ℕ → List Seen → List Seen
+without pid [] = []
+without pid (x ∷ xs) = if nat_eq x.pid pid then xs else x ∷ without pid xs
+
+-- whether the summary at a place has a PID
+abbrev pub has_at : List Summary → ℕ → ℕ → Bool
+has_at [] at pid = false
+has_at (s ∷ ss) zero pid = nat_eq s.pid pid
+has_at (s ∷ ss) (suc at) pid = has_at ss at pid

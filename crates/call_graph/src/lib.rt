@@ -2,7 +2,9 @@
 #![tactic(auto)]
 
 mod calls;
+mod graph;
 mod reads;
 mod summary;
 
+pub use graph::CallGraph;
 pub use summary::{Site, Summary, summarise};
