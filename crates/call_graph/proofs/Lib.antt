@@ -1,2 +1,3 @@
 pub mod Summarised
 pub mod Placing
+pub mod Reaching

@@ -1,7 +1,7 @@
 -- Summaries by rising PID: where one is, put in and taken away.
-use Rattle.std.proofs.Common.{◌≡◌, ℕ, zero, suc, ◌+◌, ◌<◌, ◌≤◌, List, [], ◌∷◌, ◌++◌, get_or, set, take, drop, length, map, Bool, true, false, refl, ap, subst, sym, ◌∙◌, arith, eq-eqb, eqb-true, ne_eqb}
+use Rattle.std.proofs.Common.{◌≡◌, ℕ, zero, suc, ◌<◌, ◌≤◌, List, [], ◌∷◌, ◌++◌, get_or, set, take, drop, length, map, Bool, true, false, refl, ap, subst, sym, ◌∙◌, arith, eq-eqb, eqb-true, ne_eqb}
 use Rattle.std.specs.Prelude.{nat_eq, nat_lt, if◌then◌else◌}
-use Rattle.std.specs.List.{AllByRecursion, insert, remove}
+use Rattle.std.specs.List.{AllByRecursion}
 use Rattle.std.proofs.lemmas.Bool.Decides.{nat_tests}
 use Rattle.il_core.specs.Shapes.{IsRisingFrom, IsRising}
 use Rattle.call_graph.specs.declared.summary.Summary.{Summary}
@@ -16,7 +16,8 @@ all_above : (b p : ℕ) (xs : List Summary) → p ≤ b → IsRisingFrom pid_of 
 all_above b p [] le h = tt
 all_above b p (x ∷ xs) le h = let lt = h.0 in (omega arith, all_above x.pid p xs (omega arith) h.1)
 
-pub rising_above : (xs : List Summary) (m p : ℕ) (d : Summary) → IsRising pid_of xs → p ≤ (get_or xs m d).pid → AllByRecursion (λ (s : Summary). p ≤ s.pid) (drop m xs)
+pub rising_above : (xs : List Summary) (m p : ℕ) (d : Summary) → IsRising pid_of xs → p ≤ (get_or xs m d).pid
+    → AllByRecursion (λ (s : Summary). p ≤ s.pid) (drop m xs)
 rising_above [] zero p d h le = tt
 rising_above [] (suc m) p d h le = tt
 rising_above (x ∷ xs) zero p d h le = (le, all_above x.pid p xs le h)
@@ -103,7 +104,8 @@ rest_rising : (x : Summary) (xs : List Summary) → IsRising pid_of (x ∷ xs) �
 rest_rising x [] h = tt
 rest_rising x (y ∷ xs) h = h.1
 
-pub gone_nowhere : (xs : List Summary) (at pid : ℕ) → IsRising pid_of xs → Below pid (take at xs) → Above pid (drop at xs) → at ≤ length xs → has_at xs at pid ≡ false
+pub gone_nowhere : (xs : List Summary) (at pid : ℕ) → IsRising pid_of xs → Below pid (take at xs) → Above pid (drop at xs) → at ≤ length xs
+    → has_at xs at pid ≡ false
     → map summary_of xs ≡ without pid (map summary_of xs)
 gone_nowhere [] at pid h below above le e = refl
 gone_nowhere (x ∷ xs) zero pid h below above le e =
@@ -200,7 +202,8 @@ pub replaced : (xs : List Summary) (at pid : ℕ) (s : Summary) → s.pid ≡ pi
 replaced xs at pid s is p e =
     put_there xs at s (subst (λ (n : ℕ). Below n (take at xs)) (sym is) p.below) (ap (has_at xs at) is ∙ e)
 
-pub replaced_rises : (xs : List Summary) (at pid : ℕ) (s : Summary) → s.pid ≡ pid → IsRising pid_of xs → has_at xs at pid ≡ true → IsRising pid_of (set xs at s)
+pub replaced_rises : (xs : List Summary) (at pid : ℕ) (s : Summary) → s.pid ≡ pid → IsRising pid_of xs → has_at xs at pid ≡ true
+    → IsRising pid_of (set xs at s)
 replaced_rises xs at pid s is h e = rising_set xs at s h (ap (has_at xs at) is ∙ e)
 
 pub added : (xs : List Summary) (at pid : ℕ) (s : Summary) → s.pid ≡ pid → Placed xs at pid → has_at xs at pid ≡ false

@@ -13,7 +13,7 @@ use std::marker::Model;
 /// each.
 #[derive(Drop)]
 pub struct CallGraph {
-    routines: Vec<Summary>,
+    pub(crate) routines: Vec<Summary>,
 }
 
 impl Model for CallGraph {

@@ -3,6 +3,7 @@
 
 mod calls;
 mod graph;
+mod reach;
 mod reads;
 mod summary;
 

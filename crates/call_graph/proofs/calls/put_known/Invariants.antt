@@ -1,4 +1,4 @@
-use Rattle.std.proofs.Common.{◌≡◌, ◌++◌, length, take, drop}
+use Rattle.std.proofs.Common.{◌≡◌, ◌++◌, take, drop}
 use Rattle.call_graph.specs.Calls.{with_known}
 use Rattle.call_graph.proofs.calls.put_known.Given as goal
 

@@ -1,4 +1,4 @@
-use Rattle.std.proofs.Common.{◌≡◌, ◌<◌, ◌≤◌, ℕ, suc, ◌+◌, ◌-◌, ◌/◌, List, ap, subst, sym, ◌∙◌, arith, take, length, get_or}
+use Rattle.std.proofs.Common.{◌≡◌, ◌<◌, ℕ, suc, ◌+◌, ◌-◌, ◌/◌, subst, arith, take}
 use Rattle.std.specs.List.{AllByRecursion}
 use Rattle.call_graph.specs.declared.summary.Summary.{Summary}
 use Rattle.call_graph.proofs.Placing.{rising_below, rising_above}

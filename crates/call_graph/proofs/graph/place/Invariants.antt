@@ -1,4 +1,4 @@
-use Rattle.std.proofs.Common.{ℕ, ◌-◌, ◌<◌, ◌≤◌, take, drop, length}
+use Rattle.std.proofs.Common.{◌-◌, ◌<◌, ◌≤◌, take, drop, length}
 use Rattle.std.specs.List.{AllByRecursion}
 use Rattle.call_graph.specs.declared.summary.Summary.{Summary}
 use Rattle.call_graph.proofs.graph.place.Given as goal

@@ -1,8 +1,8 @@
-use Rattle.std.proofs.Common.{◌≡◌, ◌<◌, ◌∙◌, ap, sym, subst, arith, map, length, true, false}
+use Rattle.std.proofs.Common.{◌∙◌, ap, sym, subst, arith, map, true, false}
 use Rattle.std.specs.Prelude.{List}
 use Rattle.il_core.specs.Shapes.{IsRising}
 use Rattle.call_graph.specs.declared.summary.Summary.{Summary}
-use Rattle.call_graph.specs.Summaries.{Seen, summary_of, without}
+use Rattle.call_graph.specs.Summaries.{summary_of, without}
 use Rattle.call_graph.proofs.Placing.{has_within, has_as, placed_as, gone_there, gone_nowhere, rising_gone}
 use Rattle.call_graph.proofs.graph.CallGraph.remove.Goals as goal
 

@@ -1,8 +1,8 @@
-use Rattle.std.proofs.Common.{◌≡◌, ◌<◌, ◌∙◌, ap, sym, subst, arith, map, length, true, false}
+use Rattle.std.proofs.Common.{◌∙◌, ap, sym, subst, arith, map, true, false}
 use Rattle.std.specs.Prelude.{List}
 use Rattle.il_core.specs.Shapes.{IsRising}
 use Rattle.call_graph.specs.declared.summary.Summary.{Summary}
-use Rattle.call_graph.specs.Summaries.{Seen, summary_of, put}
+use Rattle.call_graph.specs.Summaries.{summary_of, put}
 use Rattle.call_graph.proofs.Placing.{has_within, has_as, placed_as, replaced, replaced_rises, added, added_rises}
 use Rattle.call_graph.proofs.graph.CallGraph.replace.Goals as goal
 
