@@ -26,8 +26,10 @@ pub loop-next-preserved : goal.loop-next-preserved
 loop-next-preserved c =
     let len : c.len.result ≡ length c.loop-next.found.items = c.len.ensures ∙ c.loop-next.found.ok.0 in
     let test = c.loop-next-test.true in
-    let both = step_as c.args.routines.now c.requires.rising c.args.from c.loop-next.next c.loop-next.marks c.loop-next.found.items c.loop-next.invariant.state
-    c.loop-next.invariant.first (omega arith) c.index-at.result.now c.index-at.ensures c.sites_at.result.now c.find_callees.new.marks c.find_callees.new.found.items
+    let both = step_as c.args.routines.now c.requires.rising c.args.from c.loop-next.next c.loop-next.marks c.loop-next.found.items
+    c.loop-next.invariant.state
+    c.loop-next.invariant.first (omega arith) c.index-at.result.now c.index-at.ensures c.sites_at.result.now c.find_callees.new.marks
+    c.find_callees.new.found.items
     c.sites_at.ensures c.in_ok-find_callees.ensures.marks c.in_ok-find_callees.ensures.found in
     record { state = both.0; first = both.1 }
 
@@ -35,5 +37,6 @@ pub returns : goal.returns
 returns c =
     let len : c.len.result ≡ length c.loop-next.found.items = c.len.ensures ∙ c.loop-next.found.ok.0 in
     let test = c.loop-next-test.false in
-    spread_done c.args.routines.now c.requires.rising c.args.from c.loop-next.next c.loop-next.marks c.loop-next.found.items c.loop-next.invariant.state (omega arith)
+    spread_done c.args.routines.now c.requires.rising c.args.from c.loop-next.next c.loop-next.marks c.loop-next.found.items
+    c.loop-next.invariant.state (omega arith)
     c.loop-next.invariant.first

@@ -13,9 +13,11 @@ read_anywhere-requires-clause-ends c =
 pub thin_blocks-requires-clause-named : goal.thin_blocks-requires-clause-named
 thin_blocks-requires-clause-named c =
     blocks_wide c.args.regs (64 * length c.as_mut_slice.result.now)
-    (let h = c.div_ceil-width.ensures in let e = c.as_mut_slice.ensures.len in let s = c.in_ok-set.ensures.len in omega arith) c.args.blocks.now c.requires.named
+    (let h = c.div_ceil-width.ensures in let e = c.as_mut_slice.ensures.len in let s = c.in_ok-set.ensures.len in omega arith) c.args.blocks.now
+    c.requires.named
 
 pub thin_blocks-requires-clause-ends : goal.thin_blocks-requires-clause-ends
 thin_blocks-requires-clause-ends c =
     ends_wide c.args.regs (64 * length c.as_mut_slice.result.now)
-    (let h = c.div_ceil-width.ensures in let e = c.as_mut_slice.ensures.len in let s = c.in_ok-set.ensures.len in omega arith) c.args.blocks.now c.requires.ends
+    (let h = c.div_ceil-width.ensures in let e = c.as_mut_slice.ensures.len in let s = c.in_ok-set.ensures.len in omega arith) c.args.blocks.now
+    c.requires.ends

@@ -11,7 +11,8 @@ use Rattle.cleanup.proofs.dead.drop_dead_writes_owned.Goals as goal
 
 pub drop_dead-requires-clause-few : goal.drop_dead-requires-clause-few
 drop_dead-requires-clause-few c =
-    few_blocks (the_view c.r.inside) c.into_vec-blocks.result.items c.as_mut_slice.result.now c.r.invariant.size c.as_mut_slice.ensures.value c.into_vec-blocks.ensures
+    few_blocks (the_view c.r.inside) c.into_vec-blocks.result.items c.as_mut_slice.result.now c.r.invariant.size c.as_mut_slice.ensures.value
+    c.into_vec-blocks.ensures
 
 pub drop_dead-requires-clause-named : goal.drop_dead-requires-clause-named
 drop_dead-requires-clause-named c =

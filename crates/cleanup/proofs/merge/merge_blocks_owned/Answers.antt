@@ -11,7 +11,8 @@ use Rattle.cleanup.proofs.merge.merge_blocks_owned.Goals as goal
 
 pub merge-requires-clause-few : goal.merge-requires-clause-few
 merge-requires-clause-few c =
-    few_blocks (the_view c.r.inside) c.into_vec-blocks.result.items c.as_mut_slice.result.now c.r.invariant.size c.as_mut_slice.ensures.value c.into_vec-blocks.ensures
+    few_blocks (the_view c.r.inside) c.into_vec-blocks.result.items c.as_mut_slice.result.now c.r.invariant.size c.as_mut_slice.ensures.value
+    c.into_vec-blocks.ensures
 
 pub merge-requires-clause-inside : goal.merge-requires-clause-inside
 merge-requires-clause-inside c =
