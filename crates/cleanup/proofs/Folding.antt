@@ -27,7 +27,7 @@ folded_same n (ends.Loop t) fs gs m h = refl
 folded_same n (ends.Return r) fs gs m h = refl
 folded_same n (ends.Exit r) fs gs m h = refl
 
-end_block : (n : ℕ) (bs : List Block) (b : ℕ) (x : Block) → EndsRead n bs → drop b bs ≡ x ∷ drop (b + 1) bs → ReadsRegister n x.end
+pub end_block : (n : ℕ) (bs : List Block) (b : ℕ) (x : Block) → EndsRead n bs → drop b bs ≡ x ∷ drop (b + 1) bs → ReadsRegister n x.end
 end_block n bs b x reads e =
     let all : EndsRead n (x ∷ drop (b + 1) bs) = subst (EndsRead n) e (all_drop (λ (y : Block). ReadsRegister n y.end) b bs reads) in all.0
 

@@ -196,11 +196,11 @@ pub blocks_few : (xs : List Block) → length xs ≤ blocks_size xs
 blocks_few [] = omega arith
 blocks_few (x ∷ xs) = let h = blocks_few xs in let e = sum_by-cons block_size x xs in omega arith
 
-all_from : (P : Block → Type 0) (xs : List Block) → ((i : ℕ) (y : Block) → slice_get xs i ≡ Some y → P y) → AllByRecursion P xs
+pub all_from : (P : Block → Type 0) (xs : List Block) → ((i : ℕ) (y : Block) → slice_get xs i ≡ Some y → P y) → AllByRecursion P xs
 all_from P [] h = tt
 all_from P (x ∷ xs) h = (h 0 x refl, all_from P xs (λ i y e. h (suc i) y e))
 
-names_end : (n : ℕ) (e : End) → Targets (λ u. u < n) e → NamesBlocks n e
+pub names_end : (n : ℕ) (e : End) → Targets (λ u. u < n) e → NamesBlocks n e
 names_end n (ends.Jump t) h = (h, tt)
 names_end n (ends.Branch r t u) h = (h.0, (h.1, tt))
 names_end n (ends.Loop t) h = (h, tt)

@@ -1,2 +1,4 @@
+pub mod Bits
 pub mod Ends
 pub mod Marks
+pub mod Merges

@@ -1,0 +1,3 @@
+pub mod Summarised
+pub mod Placing
+pub mod Reaching
