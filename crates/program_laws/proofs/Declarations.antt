@@ -1,6 +1,6 @@
 -- Declarations at file scope: functions, the library's names, objects.
-use Rattle.std.proofs.Common.{◌≡◌, ℕ, suc, ◌+◌, ◌<◌, ◌≤◌, Bool, true, false, List, [], ◌∷◌, length, Option, Some, None, refl, sym, ap, ◌∙◌, subst, arith}
-use Rattle.std.specs.Prelude.{if◌then◌else◌, ◌&&◌, not, is_none, codes, ⊤}
+use Rattle.std.proofs.Common.{◌≡◌, ℕ, ◌+◌, ◌≤◌, Bool, true, false, List, [], ◌∷◌, length, Option, Some, None, refl, sym, ap, ◌∙◌, subst, arith}
+use Rattle.std.specs.Prelude.{if◌then◌else◌, ◌&&◌, not, is_none, codes}
 use Rattle.std.proofs.lemmas.Bool.{true≢false, false≢true}
 use Rattle.hlo_num.specs.declared.word.Ty.{Ty}
 use Rattle.il_core.specs.declared.shape.ShapeRow.{ShapeRow}
@@ -10,7 +10,7 @@ use Rattle.sym_tables.specs.declared.symbol.Standing.{Standing}
 use Rattle.sym_tables.specs.declared.symbol.Standing.TheVariants as standings
 use Rattle.sym_tables.specs.declared.symbol.Symbol.{Symbol}
 use Rattle.sym_tables.specs.Entities.{compatible}
-use Rattle.sym_tables.specs.Symbols.{later, is_declared}
+use Rattle.sym_tables.specs.Symbols.{later}
 use Rattle.sym_tables.specs.Table.{Table, same_name, symbol_at}
 use Rattle.c_tree.specs.declared.expression.Identifier.{Identifier}
 use Rattle.c_tree.specs.declared.declaration.Declaration.{Declaration}
@@ -34,20 +34,20 @@ use Rattle.c_types.specs.DeclarationRules.{parameters, parameters_from, declare_
 use Rattle.c_types.specs.Enumerations.{is_library}
 use Rattle.c_types.specs.ExpressionRules.{specifying}
 use Rattle.c_types.specs.Names.{bound_here, bind, declare_new}
-use Rattle.c_types.specs.Rules.{Here, Reply, Gives, Breaks, Rule, ◌>>=◌, followed, give, known, change, unless}
+use Rattle.c_types.specs.Rules.{Here, Reply, Gives, Breaks, Rule, ◌>>=◌, followed, known, change, unless}
 use Rattle.c_types.specs.Scopes.{innermost}
 use Rattle.c_types.specs.StatementRules.{declares, value_type}
-use Rattle.program_laws.specs.Growing.{entity_in, standing_in, entity_at, standing_at, Grows}
+use Rattle.program_laws.specs.Growing.{entity_in, standing_in, entity_at, standing_at}
 use Rattle.program_laws.specs.Settled.{IsProvided, AreSettled}
-use Rattle.program_laws.proofs.Files.{SureHolds, Sure, sure_and, sure_any, sure_gives, FileHolds, Files, files_and, files_quiet, files_gives, files_breaks, files_if, files_tests}
+use Rattle.program_laws.proofs.Files.{Sure, sure_and, sure_any, sure_gives, FileHolds, Files, files_and, files_quiet, files_gives, files_breaks, files_if, files_tests}
 use Rattle.program_laws.proofs.Fine as fine
 use Rattle.program_laws.proofs.Fine.{Any}
 use Rattle.program_laws.proofs.Holding.{Holding, Lacks, IsAwaited, file_of, holding_bound, settled_function, some_is, array_function}
 use Rattle.program_laws.proofs.Links.{IsLinked, LinkHolds, link_does}
 use Rattle.program_laws.proofs.Objects.{file_object_files}
-use Rattle.program_laws.proofs.States.{AreCoherent, IsNested, IsOk, at_file, all_grown}
+use Rattle.program_laws.proofs.States.{AreCoherent, IsNested, at_file, all_grown}
 use Rattle.program_laws.proofs.Statements.{value_type_fine}
-use Rattle.program_laws.proofs.Tables.{IsEntering, Accepts, entity_met, standing_met, entity_here, standing_here, entity_other, standing_other, said_here, entering_grows, at_or_not, grows_same}
+use Rattle.program_laws.proofs.Tables.{IsEntering, Accepts, standing_met, entity_here, standing_here, entity_other, standing_other, said_here, entering_grows, at_or_not, grows_same}
 use Rattle.program_laws.proofs.Typings.{specifying_fine}
 
 -- ## Parameters

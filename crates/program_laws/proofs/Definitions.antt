@@ -1,6 +1,6 @@
 -- The definition of a function: its name is defined, and the function stands in the table behind it.
-use Rattle.std.proofs.Common.{◌≡◌, ℕ, zero, suc, ◌+◌, ◌-◌, ◌<◌, ◌≤◌, Bool, true, false, List, [], ◌∷◌, ◌++◌, length, Option, Some, None, refl, sym, ap, ◌∙◌, subst, arith}
-use Rattle.std.specs.Prelude.{if◌then◌else◌, not, is_some, IsTrue, nat_eq, ⊤}
+use Rattle.std.proofs.Common.{◌≡◌, ◌≢◌, ℕ, suc, ◌+◌, ◌-◌, ◌≤◌, Bool, true, false, List, [], ◌∷◌, ◌++◌, length, Option, Some, None, refl, sym, ap, ◌∙◌, subst, arith}
+use Rattle.std.specs.Prelude.{if◌then◌else◌, not, is_some, IsTrue, nat_eq}
 use Rattle.std.specs.List.{AllByRecursion}
 use Rattle.std.proofs.lemmas.Bool.{true≢false, false≢true}
 use Rattle.hlo_num.specs.declared.word.Ty.{Ty}
@@ -13,20 +13,17 @@ use Rattle.sym_tables.specs.declared.entity.Entity.TheVariants as entities
 use Rattle.sym_tables.specs.declared.symbol.Standing.{Standing}
 use Rattle.sym_tables.specs.declared.symbol.Standing.TheVariants as standings
 use Rattle.sym_tables.specs.declared.symbol.Symbol.{Symbol}
-use Rattle.sym_tables.specs.Listing.{shape_of}
-use Rattle.sym_tables.specs.Symbols.{later}
+use Rattle.sym_tables.specs.Symbols.{later, is_defined}
 use Rattle.sym_tables.specs.Table.{Table, symbol_at}
 use Rattle.c_tree.specs.declared.expression.Identifier.{Identifier}
 use Rattle.c_tree.specs.declared.declaration.Function.{Function as Defined}
 use Rattle.c_tree.specs.declared.declaration.Parameter.{Parameter}
 use Rattle.c_tree.specs.declared.statement.Block.{Block}
-use Rattle.c_typed.specs.declared.function.Local.{Local}
 use Rattle.c_typed.specs.declared.function.Parameter.{Parameter as TypedParameter}
 use Rattle.c_typed.specs.declared.function.TypedFunction.{TypedFunction}
 use Rattle.c_typed.specs.declared.statement.TypedStmt.{TypedStmt, roll-TypedStmt}
 use Rattle.c_typed.specs.declared.statement.TypedStmt.TheOpen.{TypedStmt-F}
 use Rattle.c_typed.specs.declared.statement.TypedStmt.TheFolds.{fold-roll-TypedStmt}
-use Rattle.c_typed.specs.Meaning.{function_at}
 use Rattle.c_typed.specs.Trees as tree
 use Rattle.c_typed.specs.Trees.{Function}
 use Rattle.c_typed.specs.Views.{stmt_layer, section_layer, function_of}
@@ -37,28 +34,28 @@ use Rattle.c_types.specs.declared.linkage.Linked.{Linked}
 use Rattle.c_types.specs.declared.specifiers.Site.TheVariants as sites
 use Rattle.c_types.specs.declared.specifiers.Specified.{Specified}
 use Rattle.c_types.specs.declared.statements.Around.{Around}
-use Rattle.c_types.specs.DeclarationRules.{link, parameters, program_name}
+use Rattle.c_types.specs.DeclarationRules.{link, parameters}
 use Rattle.c_types.specs.Enumerations.{is_library}
 use Rattle.c_types.specs.ExpressionRules.{specifying}
 use Rattle.c_types.specs.Names.{enter, leave, bind}
-use Rattle.c_types.specs.Rules.{Here, Reply, Gives, Breaks, Rule, ◌>>=◌, ◌>>◌, followed, give, known, change, unless}
+use Rattle.c_types.specs.Rules.{Here, Reply, Gives, Breaks, ◌>>=◌, ◌>>◌, followed, give, known, change, unless}
 use Rattle.c_types.specs.Scopes.{Declared, inner}
 use Rattle.c_types.specs.StatementRules.{blocking}
 use Rattle.c_types.specs.Typing as typing
 use Rattle.c_types.specs.Typing.{Aside, aside, resume, named_parameter, named_parameters}
 use Rattle.lower_laws.specs.Fits.{FitsFunction, FitsStmt}
 use Rattle.type_laws.proofs.Functions.{bodied, fronted}
-use Rattle.program_laws.specs.Growing.{entity_at, standing_at, Covers, Grows}
-use Rattle.program_laws.specs.Settled.{Stands, HasFunction, IsProvided, AreSettled}
+use Rattle.program_laws.specs.Growing.{standing_in, entity_at, standing_at, Covers, Grows}
+use Rattle.program_laws.specs.Settled.{Stands, HasFunction, HaveOwnPids, IsProvided, AreSettled}
 use Rattle.program_laws.proofs.Declarations.{parameters_fine, parameters_sure, holding_function}
 use Rattle.program_laws.proofs.Files.{SureHolds}
 use Rattle.program_laws.proofs.Fine as fine
 use Rattle.program_laws.proofs.Fine.{Any}
-use Rattle.program_laws.proofs.Holding.{Holding, holding_after, settled_function, some_is}
+use Rattle.program_laws.proofs.Holding.{Holding, all_map, holding_after, settled_function, some_is}
 use Rattle.program_laws.proofs.Links.{IsLinked, LinkHolds, link_does}
 use Rattle.program_laws.proofs.States.{AreCoherent, IsNested, IsOk, After, after_left, after_then, ok_entered, all_grown, coherent_inner, coherent_outer, coherent_append, nested_inner, nested_outer, file_inner, file_outer, at_file}
 use Rattle.program_laws.proofs.Statements.{FitStatements, blocking_fine}
-use Rattle.program_laws.proofs.Tables.{IsEntering, entity_met, standing_met, entity_here, standing_here, said_here, entering_grows, at_or_not, marked_grows, grows_then}
+use Rattle.program_laws.proofs.Tables.{Accepts, standing_met, entity_here, standing_here, said_here, entering_grows, at_or_not, marked_grows, grows_then}
 use Rattle.program_laws.proofs.Typings.{specifying_fine}
 
 -- ## The names of the parameters
@@ -180,6 +177,17 @@ all_last : {X : Type 0} (P : X → Type 0) (xs : List X) (y : X) → AllByRecurs
 all_last P [] y ok p = (p, tt)
 all_last P (x ∷ xs) y ok p = (ok.0, all_last P xs y ok.1 p)
 
+own_last : (fs : List Function) (f : Function) → HaveOwnPids fs → AllByRecursion (λ (g : Function). f.pid ≢ g.pid) fs → HaveOwnPids (fs ++ f ∷ [])
+own_last [] f own others = (tt, tt)
+own_last (g ∷ fs) f own others = (all_last (λ (other : Function). other.pid ≢ g.pid) fs f own.0 others.0, own_last fs f own.1 others.1)
+
+-- what is defined isn't defined again
+not_before : (o : Option Symbol) (said : Entity) → Accepts o standings.Defined said → standing_in o ≡ Some standings.Defined → ⊥
+not_before None said ok is = let c : None ≡ Some standings.Defined = is in cc
+not_before (Some s) said ok is =
+    let defined : s.standing ≡ standings.Defined = (let c : Some s.standing ≡ Some standings.Defined = is in cc) in
+    true≢false (ap is_defined (sym defined) ∙ ok.1)
+
 later_defined : (a : Standing) → later a standings.Defined ≡ standings.Defined
 later_defined standings.Declared = refl
 later_defined standings.Tentative = refl
@@ -243,15 +251,21 @@ module _ (number : ℕ) (fs : List Function) where
           defined = ap (standing_at e.syms) x.pid_is ∙ x.after.table.standings l.pid ∙ standing_here k.entering
               ∙ ap Some (defined_met (symbol_at h.syms l.pid));
           fits = x.fits;
-        } in (
+        } in
+        let others : AllByRecursion (λ (f : Function). (function_of t).pid ≢ f.pid) fs =
+        all_map (λ f st e1.
+        not_before (symbol_at h.syms l.pid) (entities.Function sp.ty types) k.entering.accepts
+        (ap (standing_at h.syms) (sym x.pid_is ∙ e1) ∙ st.defined)) fs hold.settled.functions in (
           record {
             ok = there.ok;
             depth = there.depth;
             settled = record {
+              sound = there.settled.sound;
               names = there.settled.names;
               lengths = there.settled.lengths;
               routines = λ p gives ps s is st. provided_with t l.pid p s x.pid_is (there.settled.routines p gives ps s is st);
               functions = all_last (Stands e.syms) fs (function_of t) there.settled.functions stands;
+              apart = own_last fs (function_of t) there.settled.apart others;
             };
             waits = there.waits;
           },

@@ -56,12 +56,12 @@ use Rattle.c_types.specs.Enumerations.{value_in, enumerator, is_library, fits_in
 use Rattle.c_types.specs.ExpressionRules as rules
 use Rattle.c_types.specs.ExpressionRules.{Typing}
 use Rattle.c_types.specs.Names.{bound_here}
-use Rattle.c_types.specs.Rules.{Here, Reply, Gives, Breaks, Rule, ◌>>=◌, give}
+use Rattle.c_types.specs.Rules.{Here, Rule, ◌>>=◌, give}
 use Rattle.c_types.specs.Specifiers.{meaning}
 use Rattle.c_types.specs.Uses.{read, variable, element, use_name, written, target_name, subscripted, use_function, function_entity, function_symbol, use_pid}
 use Rattle.lower_laws.specs.Fits.{FitsVariable, FitsArray, FitsExpr, FitsPlace, FitsArguments, argument_count}
-use Rattle.program_laws.specs.Growing.{entity_in, entity_at, IsMore, Shows, Covers}
-use Rattle.program_laws.proofs.States.{IsObjectAt, IsOk, after_beside}
+use Rattle.program_laws.specs.Growing.{entity_in, entity_at, IsMore, Shows}
+use Rattle.program_laws.proofs.States.{IsOk, after_beside}
 use Rattle.program_laws.proofs.Tables.{marked, used_now}
 use Rattle.program_laws.proofs.Fine as fine
 use Rattle.program_laws.proofs.Fine.{Any, Always}
@@ -293,9 +293,11 @@ module _ (number : ℕ) (rows : List ShapeRow) where
       fine.and number rows (fine.tests number rows (length es == length f.params) line kinds.Arguments) (λ u.
       fine.and number rows (arguments_fine f.params es ok) (λ vs.
       fine.gives number rows (rules.call_node f vs) (λ goods is called.
-      node (TypedExpr-F.Call f.result f.pid vs)
-      (goods.0, routine_shape (shape_at rows f.pid) (length f.params) (argument_count (arguments_from (map expr_of vs))) (is_some f.result) called
-      (counted vs ∙ goods.1 (eqb-true (length es) (length f.params) is))))))
+      node (TypedExpr-F.Call f.result f.pid vs) (
+        goods.0,
+        routine_shape (shape_at rows f.pid) (length f.params) (argument_count (arguments_from (map expr_of vs))) (is_some f.result) called
+            (counted vs ∙ goods.1 (eqb-true (length es) (length f.params) is)),
+      ))))
 
   call_fine : (line : ℕ) (b : Binding) (es : List Typing) → AllFine es → Fine FitsTyped (rules.call line b es)
   call_fine line (bindings.Constant w) es ok = fine.breaks number rows line kinds.NotFunction

@@ -1,7 +1,6 @@
 -- Rules at file scope, and what rules give for sure.
-use Rattle.std.proofs.Common.{◌≡◌, ℕ, Bool, true, false, List, [], ◌∷◌, refl}
+use Rattle.std.proofs.Common.{◌≡◌, ℕ, Bool, true, false, List, [], refl}
 use Rattle.std.specs.Prelude.{if◌then◌else◌}
-use Rattle.il_core.specs.declared.shape.ShapeRow.{ShapeRow}
 use Rattle.c_typed.specs.Trees.{Function}
 use Rattle.c_types.specs.declared.fault.TypeKind.{TypeKind}
 use Rattle.c_types.specs.Rules.{Here, Reply, Gives, Breaks, Rule, ◌>>=◌, followed, give, broken, unless}

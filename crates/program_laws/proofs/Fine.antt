@@ -1,10 +1,9 @@
 -- What a rule does that declares nothing for the program: from a state that goes with the table, where the rule gives a
 -- value, the state behind does too, and the value fits shapes that cover the table behind. One lemma for each way to put
 -- rules together. A rule may ask something of the state in front of it.
-use Rattle.std.proofs.Common.{◌≡◌, ℕ, suc, ◌+◌, List, [], ◌∷◌, Option, Some, None, Bool, true, false, refl, sym, ap, ◌∙◌, subst}
+use Rattle.std.proofs.Common.{◌≡◌, ℕ, List, [], ◌∷◌, Option, Some, None, Bool, true, false, refl}
 use Rattle.std.specs.Prelude.{if◌then◌else◌, ⊤, is_some, is_none}
 use Rattle.std.specs.Option.{option_map}
-use Rattle.hlo_num.specs.declared.word.Ty.{Ty}
 use Rattle.il_core.specs.declared.shape.ShapeRow.{ShapeRow}
 use Rattle.c_tree.specs.declared.expression.Identifier.{Identifier}
 use Rattle.c_types.specs.declared.binding.Binding.{Binding}

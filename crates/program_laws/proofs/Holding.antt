@@ -1,21 +1,19 @@
 -- What holds at file scope behind each declaration: the table is settled, and an array that lacks its length is awaited.
-use Rattle.std.proofs.Common.{◌≡◌, ℕ, zero, suc, ◌+◌, ◌<◌, Bool, true, false, List, [], ◌∷◌, ◌++◌, length, Option, Some, None, refl, sym, ap, ◌∙◌, subst, arith}
+use Rattle.std.proofs.Common.{◌≡◌, ℕ, ◌<◌, Bool, true, false, List, [], ◌∷◌, ◌++◌, length, Option, Some, None, refl, sym, ap, ◌∙◌, subst, arith}
 use Rattle.std.specs.Prelude.{if◌then◌else◌, ◌==◌, ⊤, is_some}
 use Rattle.std.specs.List.{AllByRecursion}
-use Rattle.std.specs.Map.{keys_of}
 use Rattle.std.specs.Cmp.Lexicographic.{same_text}
-use Rattle.std.proofs.lemmas.Bool.{true≢false, false≢true}
+use Rattle.std.proofs.lemmas.Bool.{false≢true}
 use Rattle.hlo_num.specs.declared.word.Ty.{Ty}
 use Rattle.il_core.specs.declared.shape.Shape.TheVariants as shape
-use Rattle.il_core.specs.declared.shape.ShapeRow.{ShapeRow}
 use Rattle.sym_tables.specs.declared.entity.Entity.{Entity}
 use Rattle.sym_tables.specs.declared.entity.Entity.TheVariants as entities
 use Rattle.sym_tables.specs.declared.symbol.Standing.{Standing}
 use Rattle.sym_tables.specs.declared.symbol.Standing.TheVariants as standings
 use Rattle.sym_tables.specs.declared.symbol.Symbol.{Symbol}
-use Rattle.sym_tables.specs.Entities.{composite, compatible, lacks_length}
+use Rattle.sym_tables.specs.Entities.{lacks_length}
 use Rattle.sym_tables.specs.Listing.{shape_of}
-use Rattle.sym_tables.specs.Symbols.{is_declared, is_defined, later}
+use Rattle.sym_tables.specs.Symbols.{is_declared, is_defined}
 use Rattle.sym_tables.specs.Table.{Table, same_name, symbol_at}
 use Rattle.c_typed.specs.Trees.{Function}
 use Rattle.c_types.specs.declared.binding.Binding.{Binding}
@@ -23,14 +21,14 @@ use Rattle.c_types.specs.declared.binding.Binding.TheVariants as bindings
 use Rattle.c_types.specs.declared.binding.Extent.{Extent}
 use Rattle.c_types.specs.declared.binding.Extent.TheVariants as extents
 use Rattle.c_types.specs.declared.checker.Awaited.{Awaited}
-use Rattle.c_types.specs.DeclarationRules.{object_entity, program_name}
+use Rattle.c_types.specs.DeclarationRules.{object_entity}
 use Rattle.c_types.specs.Names.{bound_here, bind}
 use Rattle.c_types.specs.Rules.{Here}
 use Rattle.c_types.specs.Scopes.{Declared}
-use Rattle.program_laws.specs.Growing.{entity_in, standing_in, entity_at, standing_at, IsMore, Grows, Covers}
+use Rattle.program_laws.specs.Growing.{entity_in, entity_at, standing_at, IsMore, Grows}
 use Rattle.program_laws.specs.Settled.{AreOnce, Stands, IsProvided, AreSettled}
-use Rattle.program_laws.proofs.States.{AreCoherent, IsCoherent, IsOk, After, at_file, file_is, file_bound, after_then}
-use Rattle.program_laws.proofs.Tables.{IsMarked, marked_grows, covers_before, IsEntering, Accepts, entity_met, standing_met, entity_here, standing_here, entity_other, standing_other, said_here, entering_grows, at_or_not}
+use Rattle.program_laws.proofs.States.{AreCoherent, IsCoherent, IsOk, After, at_file, file_is, file_bound}
+use Rattle.program_laws.proofs.Tables.{IsMarked, marked_grows, covers_before, IsEntering, entity_met, entity_here, entity_other, standing_other, said_here, entering_grows, at_or_not}
 
 -- ## Functions stay
 
@@ -69,10 +67,12 @@ all_stand a b g fs ok = all_map (stands_grown a b g) fs ok
 
 pub settled_marked : (has : ℕ → Type 0) (fs : List Function) (a b : Table) → IsMarked a b → AreSettled has fs a → AreSettled has fs b
 settled_marked has fs a b m x = record {
+  sound = m.sound x.sound;
   names = subst AreOnce (sym m.names) x.names;
   lengths = λ pid ty fixed n is. x.lengths pid ty fixed n (sym (m.entities pid) ∙ is);
   routines = λ pid gives params s is st. x.routines pid gives params s (sym (m.entities pid) ∙ is) (sym (m.standings pid) ∙ st);
   functions = all_stand a b (marked_grows a b m) fs x.functions;
+  apart = x.apart;
 }
 
 -- ## A name is taken in
@@ -108,6 +108,7 @@ module _ {standing : Standing} {name : List ℕ} {syms : Table} {at : ℕ} {new 
   pub settled_object : (ty : Ty) (fixed : Bool) (extent : Extent) → HasGoodLength extent
       → IsEntering standing (object_entity ty fixed extent) name syms at new → AreSettled has fs new
   settled_object ty fixed extent good x = record {
+    sound = x.sound old.sound;
     names = x.once old.names;
     lengths = λ pid t f n is.
         at_or_not pid at
@@ -119,6 +120,7 @@ module _ {standing : Standing} {name : List ℕ} {syms : Table} {at : ℕ} {new 
         (subst (λ e. IsMore (object_entity ty fixed extent) e) (some_is (sym (entity_here x) ∙ ap (entity_at new) (sym same) ∙ is)) (said_here x))))
         (λ ne. old.routines pid gives params s (sym (entity_other x pid ne) ∙ is) (sym (standing_other x pid ne) ∙ st));
     functions = all_stand syms new (entering_grows x) fs old.functions;
+    apart = old.apart;
   }
     where
       from_said : (t : Ty) (f : Bool) (n : ℕ) (y : Extent) → HasGoodLength y → object_entity ty fixed y ≡ entities.Array t f (Some n) → 0 < n
@@ -142,6 +144,7 @@ module _ {standing : Standing} {name : List ℕ} {syms : Table} {at : ℕ} {new 
       → standing_at syms at ≡ Some t → IsProvided now at t) → IsProvided now at s)
       → IsEntering standing (entities.Function gives params) name syms at new → AreSettled now fs new
   settled_function gives params now wider here x = record {
+    sound = x.sound old.sound;
     names = x.once old.names;
     lengths = λ pid t f n is.
         at_or_not pid at
@@ -153,6 +156,7 @@ module _ {standing : Standing} {name : List ℕ} {syms : Table} {at : ℕ} {new 
         (here s (ap (standing_at new) (sym same) ∙ st) (λ r1 ps1 t is1 st1. widen at t (old.routines at r1 ps1 t is1 st1))))
         (λ ne. widen pid s (old.routines pid r ps s (sym (entity_other x pid ne) ∙ is) (sym (standing_other x pid ne) ∙ st)));
     functions = all_stand syms new (entering_grows x) fs old.functions;
+    apart = old.apart;
   }
     where
       widen : (pid : ℕ) (s : Standing) → IsProvided has pid s → IsProvided now pid s

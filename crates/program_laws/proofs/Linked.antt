@@ -1,16 +1,14 @@
 -- Modules that follow the rules and link are linked, and fit one another.
-use Rattle.std.proofs.Common.{◌≡◌, ◌≢◌, ℕ, zero, suc, ◌+◌, ◌<◌, ◌≤◌, Bool, true, false, cond, if◌then◌else◌, not, List, [], ◌∷◌, ◌++◌, length, Option, Some, None, refl, sym, ap, subst, ◌∙◌, arith, slice_get, nat_lt, nat_eq, sum_by}
-use Rattle.std.specs.Prelude.{◌&&◌, ◌||◌, ◌==◌, IsTrue, codes, is_some, position, ⊤}
+use Rattle.std.proofs.Common.{◌≡◌, ◌≢◌, ℕ, zero, suc, ◌+◌, ◌<◌, ◌≤◌, Bool, true, false, cond, if◌then◌else◌, not, List, [], ◌∷◌, ◌++◌, length, Option, Some, None, refl, sym, ap, subst, ◌∙◌, arith, slice_get, nat_lt}
+use Rattle.std.specs.Prelude.{◌&&◌, ◌||◌, ◌==◌, IsTrue, codes, is_some, position}
 use Rattle.std.specs.List.{AllByRecursion, position_or_len}
 use Rattle.std.specs.Map.{keys_of, values_of}
-use Rattle.std.specs.Option.{option_eq}
 use Rattle.std.proofs.lemmas.Bool.{true≢false, false≢true, eqb-true, lt-ltb, ltb-false}
 use Rattle.std.proofs.lemmas.List.Sums.{sum_by-cons}
 use Rattle.std.proofs.lemmas.Map.Entries.{length-values_of}
 use Rattle.std.proofs.lemmas.Option.{slice_get_within}
 use Rattle.hlo_num.specs.declared.word.Ty.{Ty}
 use Rattle.hlo_num.specs.declared.word.Ty.TheVariants.{Int}
-use Rattle.il_core.specs.declared.shape.Shape.{Shape}
 use Rattle.il_core.specs.declared.shape.Shape.TheVariants as shape
 use Rattle.il_core.specs.declared.shape.ShapeRow.{ShapeRow}
 use Rattle.il_core.specs.Valid.{IsObjectShape, NamesObject}
@@ -29,19 +27,17 @@ use Rattle.sym_tables.specs.Table.{Table, same_name, symbol_at, symbol_of, pid_o
 use Rattle.sym_tables.proofs.Limits.{within}
 use Rattle.linker.specs.declared.fault.LinkFault.TheVariants.{Undefined, NoMain, MainType}
 use Rattle.linker.specs.Linking as linking
-use Rattle.c_tree.specs.declared.declaration.Module.{Module}
-use Rattle.c_typed.specs.declared.function.TypedModule.{TypedModule}
 use Rattle.c_typed.specs.Meaning.{function_at}
 use Rattle.c_typed.specs.Trees.{Function}
 use Rattle.c_typed.specs.Views.{functions_of}
 use Rattle.lower_laws.specs.Bound.{IsBound}
-use Rattle.lower_laws.specs.ProgramLaws.{AreLinked, AreFitting, IsEntityOf, AreEntities, HasNamesOnce, function_count}
-use Rattle.lower_laws.specs.Programs.{lowered_program, rows_at, rows_from}
+use Rattle.lower_laws.specs.ProgramLaws.{IsEntityOf, AreEntities, HasNamesOnce, function_count}
+use Rattle.lower_laws.specs.Programs.{lowered_program, rows_from}
 use Rattle.lower_laws.proofs.ProgramsMeet.{lowered_means_the_same}
 use Rattle.lower_laws.proofs.ProgramsValid.{lowered_is_program}
-use Rattle.program_laws.specs.Growing.{entity_in, standing_in, used_in, entity_at, standing_at, is_used_at, Shows, Covers}
-use Rattle.program_laws.specs.Laws.{AreLinking, LinkingModulesAreLinked, LoweredProgramsAreRight, LinkingModulesRun}
-use Rattle.program_laws.specs.Settled.{AreOnce, Stands, HasFunction, IsProvided, AreSettled, HaveLengths, AreWhole}
+use Rattle.program_laws.specs.Growing.{entity_in, standing_in, used_in, entity_at, standing_at, Shows, Covers}
+use Rattle.program_laws.specs.Laws.{LinkingModulesAreLinked, LoweredProgramsAreRight, LinkingModulesRun}
+use Rattle.program_laws.specs.Settled.{AreOnce, Stands, HasFunction, AreWhole}
 use Rattle.program_laws.proofs.Holding.{some_is}
 use Rattle.program_laws.proofs.Modules.{typed_programs_are_whole}
 use Rattle.program_laws.proofs.Tables.{IsNamed, place, pid_is}
@@ -108,7 +104,7 @@ module _ (fs : List Function) where
   entities_from n (e ∷ es) h = (
     subst (λ m. IsEntityOf (function_at fs m) e.1) (let q : n + 0 ≡ n = omega arith in q) (h 0 e.1 refl),
     entities_from (suc n) es (λ k s is.
-    subst (λ m. IsEntityOf (function_at fs m) s) (let q : n + suc k ≡ suc n + k = omega arith in q) (h (suc k) s is)),
+        subst (λ m. IsEntityOf (function_at fs m) s) (let q : n + suc k ≡ suc n + k = omega arith in q) (h (suc k) s is)),
   )
 
   -- the row of a name
@@ -298,11 +294,11 @@ linking_modules_are_linked modules ts syms x =
     let pid = place syms linking.main_name in
     let is_main : pid_of syms (codes "main") ≡ Some pid = pid_is syms linking.main_name pid named.0 in
     let of_main = main_shape fs syms whole main.0.entity main.3 in
-    let limits = within syms x.sound.limits in (
+    let limits = within syms whole.settled.sound.limits in (
       record {
         bound = λ p f is. (found_all (λ (y : Function). y.pid) IsBound p fs f whole.bound is).0;
         named = λ p f is. named_within syms p f (stands_at fs syms whole.settled.functions p f is);
-        fits = x.sound.inits;
+        fits = whole.settled.sound.inits;
         main = pid;
         is_main = is_main;
         has_main = main_has fs syms whole pid main.0 named.1 main.2 of_main.0 of_main.1 of_main.2;

@@ -1,21 +1,20 @@
 -- What linking a declarator does: the name is taken in under its program name, with the linkage that it had.
-use Rattle.std.proofs.Common.{◌≡◌, ℕ, suc, ◌<◌, Bool, true, false, List, [], ◌∷◌, Option, Some, None, refl, sym, ap, ◌∙◌, subst}
-use Rattle.std.specs.Prelude.{if◌then◌else◌, ◌||◌, not, ⊤}
-use Rattle.std.proofs.lemmas.Bool.{true≢false, false≢true}
+use Rattle.std.proofs.Common.{◌≡◌, ℕ, Bool, true, false, List, [], Option, Some, None, refl, sym, ap, ◌∙◌, subst}
+use Rattle.std.specs.Prelude.{if◌then◌else◌, ◌||◌, not}
+use Rattle.std.proofs.lemmas.Bool.{true≢false}
 use Rattle.sym_tables.specs.declared.entity.Entity.{Entity}
 use Rattle.sym_tables.specs.declared.fault.SymFault.{SymFault}
 use Rattle.sym_tables.specs.declared.symbol.Standing.{Standing}
-use Rattle.sym_tables.specs.Table.{Table, refusal, number_of, enter as entered_table}
+use Rattle.sym_tables.specs.Table.{refusal, enter as entered_table}
 use Rattle.c_tree.specs.declared.expression.Identifier.{Identifier}
 use Rattle.c_types.specs.declared.binding.Binding.{Binding}
-use Rattle.c_types.specs.declared.fault.TypeKind.{TypeKind}
 use Rattle.c_types.specs.declared.fault.TypeKind.TheVariants as kinds
 use Rattle.c_types.specs.declared.linkage.Linked.{Linked}
 use Rattle.c_types.specs.declared.specifiers.Storage.{Storage}
 use Rattle.c_types.specs.DeclarationRules as rules
 use Rattle.c_types.specs.Names.{bound_here}
-use Rattle.c_types.specs.Rules.{Here, Reply, Gives, Breaks, Rule, ◌>>=◌, followed, give, unless}
-use Rattle.program_laws.proofs.Tables.{IsEntering, entering, place, place_number}
+use Rattle.c_types.specs.Rules.{Here, Reply, Gives, Breaks, ◌>>=◌, followed, give, unless}
+use Rattle.program_laws.proofs.Tables.{IsEntering, entering, place_number}
 
 -- a name that is linked
 pub record IsLinked (number : ℕ) (name : List ℕ) (standing : Standing) (said : Entity) (h : Here) (l : Linked) (g : Here) : Type 0 where

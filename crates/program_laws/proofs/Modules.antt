@@ -1,13 +1,10 @@
 -- Modules: their functions go with the table that they leave.
-use Rattle.std.proofs.Common.{◌≡◌, ℕ, suc, List, [], ◌∷◌, ◌++◌, map, Bool, true, false, Option, Some, None, refl, sym, ap, ◌∙◌, subst}
-use Rattle.std.specs.Prelude.{if◌then◌else◌, is_none, codes, ⊤}
+use Rattle.std.proofs.Common.{◌≡◌, ℕ, suc, List, [], ◌∷◌, ◌++◌, map, Bool, true, false, Some, None, refl, sym, ap, ◌∙◌, subst}
+use Rattle.std.specs.Prelude.{if◌then◌else◌, is_none, codes}
 use Rattle.std.specs.List.{AllByRecursion}
-use Rattle.std.proofs.lemmas.Bool.{true≢false, false≢true}
+use Rattle.std.proofs.lemmas.Bool.{false≢true}
 use Rattle.std.proofs.lemmas.List.{append_assoc}
-use Rattle.hlo_num.specs.declared.word.Ty.{Ty}
 use Rattle.sym_tables.specs.declared.entity.Entity.TheVariants as entities
-use Rattle.sym_tables.specs.declared.symbol.Standing.{Standing}
-use Rattle.sym_tables.specs.Symbols.{is_declared}
 use Rattle.sym_tables.specs.Table.{Table}
 use Rattle.c_tree.specs.declared.token.Header.{Header}
 use Rattle.c_tree.specs.declared.token.Header.TheVariants as headers
@@ -25,21 +22,21 @@ use Rattle.c_types.specs.declared.checker.Awaited.{Awaited}
 use Rattle.c_types.specs.declared.fault.TypeKind.TheVariants as kinds
 use Rattle.c_types.specs.DeclarationRules as declarations
 use Rattle.c_types.specs.Names.{bound_here, bind}
-use Rattle.c_types.specs.Rules.{Here, Reply, Gives, Breaks, Rule, ◌>>=◌, ◌>>◌, followed, give, known, change, unless}
+use Rattle.c_types.specs.Rules.{Here, Reply, Gives, Breaks, ◌>>=◌, ◌>>◌, followed, give, known, unless}
 use Rattle.c_types.specs.Typing as rules
 use Rattle.c_types.specs.Typing.{start}
 use Rattle.lower_laws.specs.Bound.{IsBound}
 use Rattle.type_laws.proofs.Modules.{typed_modules_are_bound}
-use Rattle.program_laws.specs.Growing.{entity_at, Grows}
+use Rattle.program_laws.specs.Growing.{Grows}
 use Rattle.program_laws.specs.Laws.{TypedModulesFit, TypedProgramsAreWhole, TypedModulesAreGiven}
 use Rattle.program_laws.specs.Settled.{HasFunction, AreSettled, HaveLengths, AreWhole}
-use Rattle.program_laws.specs.Typed.{AreTyped, AreTypedAs}
+use Rattle.program_laws.specs.Typed.{AreTypedAs}
 use Rattle.program_laws.proofs.Declarations.{file_declaration_files}
 use Rattle.program_laws.proofs.Definitions.{DefinedHolds, function_does}
 use Rattle.program_laws.proofs.Files.{FileHolds}
 use Rattle.program_laws.proofs.Fine as fine
 use Rattle.program_laws.proofs.Fine.{Any}
-use Rattle.program_laws.proofs.Holding.{Holding, Lacks, file_of, holding_bound, all_map}
+use Rattle.program_laws.proofs.Holding.{Holding, Lacks, holding_bound, all_map}
 use Rattle.program_laws.proofs.States.{file_is}
 use Rattle.program_laws.proofs.Tables.{grows_same, grows_then}
 
@@ -201,10 +198,12 @@ typed_modules_fit number m fs old t h whole e =
 none_whole : AreWhole [] []
 none_whole = record {
   settled = record {
+    sound = record { limits = refl; inits = tt };
     names = tt;
     lengths = λ pid ty fixed n is. absurd (let c : None ≡ Some (entities.Array ty fixed (Some n)) = is in cc);
     routines = λ pid gives params s is st. absurd (let c : None ≡ Some (entities.Function gives params) = is in cc);
     functions = tt;
+    apart = tt;
   };
   lengths = λ pid ty fixed s is st given. let c : None ≡ Some (entities.Array ty fixed None) = is in cc;
   bound = tt;

@@ -1,12 +1,11 @@
 -- A declarator of an object at file scope: the name is taken in, its binding goes with the table, and an array that lacks
 -- its length is awaited.
-use Rattle.std.proofs.Common.{◌≡◌, ℕ, suc, ◌<◌, ◌≤◌, ◌-◌, Bool, true, false, List, [], ◌∷◌, ◌++◌, length, Option, Some, None, refl, sym, ap, ◌∙◌, subst, arith}
+use Rattle.std.proofs.Common.{◌≡◌, ℕ, ◌<◌, ◌-◌, Bool, true, false, List, [], ◌∷◌, ◌++◌, length, Option, Some, None, refl, sym, ap, ◌∙◌, subst, arith}
 use Rattle.std.specs.Prelude.{if◌then◌else◌, ◌&&◌, not, nat_lt, nat_le, ⊤}
 use Rattle.std.specs.Option.{unwrap_or}
 use Rattle.std.specs.Cmp.Lexicographic.{same_text}
 use Rattle.std.proofs.lemmas.Bool.{true≢false, false≢true, leb-true}
 use Rattle.hlo_num.specs.declared.word.Ty.{Ty}
-use Rattle.hlo_num.specs.declared.word.Word.{Word}
 use Rattle.hlo_num.specs.Words.{convert}
 use Rattle.il_core.specs.Limits.{max_elements}
 use Rattle.sym_tables.specs.declared.entity.Entity.{Entity}
@@ -14,9 +13,9 @@ use Rattle.sym_tables.specs.declared.entity.Entity.TheVariants as entities
 use Rattle.sym_tables.specs.declared.symbol.Standing.{Standing}
 use Rattle.sym_tables.specs.declared.symbol.Standing.TheVariants as standings
 use Rattle.sym_tables.specs.declared.symbol.Symbol.{Symbol}
-use Rattle.sym_tables.specs.Entities.{composite, lacks_length}
+use Rattle.sym_tables.specs.Entities.{lacks_length}
 use Rattle.sym_tables.specs.Symbols.{is_declared, later}
-use Rattle.sym_tables.specs.Table.{Table, same_name, symbol_at, initialised}
+use Rattle.sym_tables.specs.Table.{same_name, symbol_at, initialised}
 use Rattle.c_tree.specs.declared.expression.Expr.{Expr}
 use Rattle.c_tree.specs.declared.expression.Identifier.{Identifier}
 use Rattle.c_tree.specs.declared.declaration.Declarator.{Declarator}
@@ -38,18 +37,17 @@ use Rattle.c_types.specs.DeclarationRules as rules
 use Rattle.c_types.specs.DeclarationRules.{object_entity, extent_or, object_standing, is_array, is_extern, program_name}
 use Rattle.c_types.specs.Enumerations.{is_library}
 use Rattle.c_types.specs.Names.{bound_here, bind}
-use Rattle.c_types.specs.Rules.{Here, Reply, Gives, Breaks, Rule, ◌>>=◌, followed, give, change}
-use Rattle.c_types.specs.StatementRules.{is_length, length_in, constant_word, length_of, value_type}
+use Rattle.c_types.specs.Rules.{Here, Reply, Gives, Breaks, ◌>>=◌, followed, give, change}
+use Rattle.c_types.specs.StatementRules.{is_length, constant_word, length_of, value_type}
 use Rattle.program_laws.specs.Growing.{entity_in, standing_in, entity_at, standing_at, IsMore, Grows}
-use Rattle.program_laws.specs.Settled.{AreSettled}
-use Rattle.program_laws.proofs.Files.{SureHolds, Sure, sure_and, sure_any, sure_gives, sure_breaks, sure_tests, FileHolds, Files, files_and, files_quiet, files_breaks, files_if, files_further}
+use Rattle.program_laws.proofs.Files.{Sure, sure_and, sure_any, sure_gives, sure_tests, FileHolds, Files, files_and, files_quiet, files_breaks, files_if, files_further}
 use Rattle.program_laws.proofs.Fine as fine
 use Rattle.program_laws.proofs.Fine.{Any}
-use Rattle.program_laws.proofs.Holding.{Holding, HasGoodLength, Lacks, IsAwaited, awaited_still, awaited_more, awaited_last, file_of, holding_after, coherent_at, settled_object, some_is, array_scalar, array_function, array_length}
+use Rattle.program_laws.proofs.Holding.{Holding, HasGoodLength, Lacks, IsAwaited, awaited_still, awaited_more, awaited_last, file_of, coherent_at, settled_object, some_is, array_scalar, array_length}
 use Rattle.program_laws.proofs.Links.{IsLinked, LinkHolds, link_does}
-use Rattle.program_laws.proofs.States.{AreCoherent, IsCoherent, IsNested, IsObjectAt, IsOk, After, at_file, file_is, file_bound, all_grown, after_beside}
+use Rattle.program_laws.proofs.States.{AreCoherent, IsCoherent, IsNested, IsOk, at_file, file_is, file_bound, all_grown, after_beside}
 use Rattle.program_laws.proofs.Statements.{constant_word_fine, length_fine, value_type_fine}
-use Rattle.program_laws.proofs.Tables.{IsEntering, entity_met, standing_met, entity_here, standing_here, entity_other, standing_other, said_here, entering_grows, at_or_not, IsNamed, named_once, more_then, initialised_marked, marked_grows, grows_same, reflexive}
+use Rattle.program_laws.proofs.Tables.{entity_met, standing_met, entity_here, standing_here, entity_other, standing_other, said_here, entering_grows, at_or_not, IsNamed, named_once, more_then, initialised_marked, reflexive}
 
 -- ## Lengths
 

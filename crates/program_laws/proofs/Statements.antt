@@ -1,5 +1,5 @@
 -- Each rule of statements makes trees that fit: one term for each form.
-use Rattle.std.proofs.Common.{◌≡◌, ℕ, suc, List, [], ◌∷◌, ◌++◌, map, Option, Some, None, Bool, true, false, length, refl, sym, ap, ◌∙◌, subst}
+use Rattle.std.proofs.Common.{◌≡◌, ℕ, List, [], ◌∷◌, ◌++◌, map, Option, Some, None, true, length, refl, sym, ap, ◌∙◌, subst}
 use Rattle.std.specs.Prelude.{◌==◌, not, is_some, is_none, ⊤}
 use Rattle.std.specs.List.{list_any}
 use Rattle.hlo_num.specs.declared.word.Ty.{Ty}
@@ -29,7 +29,6 @@ use Rattle.c_typed.specs.Views.{optional_of, sequence_from, sections_from, secti
 use Rattle.c_types.specs.declared.binding.Binding.TheVariants as bindings
 use Rattle.c_types.specs.declared.binding.Extent.{Extent}
 use Rattle.c_types.specs.declared.binding.Extent.TheVariants as extents
-use Rattle.c_types.specs.declared.conversion.Valued.{Valued}
 use Rattle.c_types.specs.declared.fault.TypeKind.TheVariants as kinds
 use Rattle.c_types.specs.declared.specifiers.Site.TheVariants as sites
 use Rattle.c_types.specs.declared.specifiers.Specified.{Specified}
@@ -42,10 +41,10 @@ use Rattle.c_types.specs.Rules.{Here, Rule, ◌>>=◌, give, known, unless}
 use Rattle.c_types.specs.StatementRules as rules
 use Rattle.c_types.specs.StatementRules.{Ruled, Blocked, Labelled}
 use Rattle.lower_laws.specs.Fits.{FitsOptional, FitsStmt, FitsSections, Around as FitsAround}
-use Rattle.program_laws.proofs.Expressions.{FitsTyped, FitsValued, FitsTree, conversion, valued_fine, constant_valued_fine, word_fine}
+use Rattle.program_laws.proofs.Expressions.{FitsValued, conversion, valued_fine, constant_valued_fine, word_fine}
 use Rattle.program_laws.proofs.Fine as fine
 use Rattle.program_laws.proofs.Fine.{Any, Always}
-use Rattle.program_laws.proofs.States.{IsOk, after_beside}
+use Rattle.program_laws.proofs.States.{after_beside}
 use Rattle.program_laws.proofs.Tables.{marked_same}
 use Rattle.program_laws.proofs.Typings.{typing_fine, specifying_fine}
 

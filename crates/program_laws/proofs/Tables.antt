@@ -1,5 +1,5 @@
 -- What the changes of a table do to what is known of its names.
-use Rattle.std.proofs.Common.{◌≡◌, ◌≢◌, ℕ, zero, suc, ◌+◌, ◌<◌, ◌≤◌, Bool, true, false, cond, not, List, [], ◌∷◌, length, Option, Some, None, refl, sym, ap, ap₂, ◌∙◌, subst, arith, nat_eq, nat_lt, position, lt-ltb}
+use Rattle.std.proofs.Common.{◌≡◌, ◌≢◌, ℕ, zero, suc, ◌+◌, ◌<◌, Bool, true, false, cond, not, List, [], ◌∷◌, length, Option, Some, None, refl, sym, ap, ap₂, ◌∙◌, subst, arith, nat_eq, nat_lt, min, position, lt-ltb}
 use Rattle.std.specs.Prelude.{if◌then◌else◌, ⊤, ◌&&◌, ◌==◌}
 use Rattle.std.specs.Bool.{beq}
 use Rattle.std.specs.List.{AllByRecursion}
@@ -17,11 +17,16 @@ use Rattle.sym_tables.specs.declared.entity.Entity.TheVariants.{Function, Scalar
 use Rattle.sym_tables.specs.declared.symbol.Standing.{Standing}
 use Rattle.sym_tables.specs.declared.symbol.Standing.TheVariants.{Declared, Tentative, Defined}
 use Rattle.sym_tables.specs.declared.symbol.Symbol.{Symbol}
-use Rattle.sym_tables.specs.Entities.{composite, compatible, lacks_length, same_type}
+use Rattle.sym_tables.specs.Entities.{composite, compatible, same_type}
 use Rattle.sym_tables.proofs.Agreement.{same_type_is}
-use Rattle.sym_tables.specs.Symbols.{met, later, is_declared, is_defined}
+use Rattle.sym_tables.specs.Sound.{IsSound, IsKept, FitsWords}
+use Rattle.sym_tables.specs.Symbols.{met, later, is_open}
 use Rattle.sym_tables.specs.declared.fault.SymFault.TheVariants.{TypeClash, Duplicate, TooMany}
-use Rattle.sym_tables.specs.Table.{Table, same_name, pid_of, number_of, symbol_of, symbol_at, enter, mark, initialised, refusal, refusal_of, repeats, is_past_limits}
+use Rattle.sym_tables.specs.Table.{Table, same_name, pid_of, number_of, symbol_of, symbol_at, enter, mark, initialised, refusal, refusal_of, clashes, repeats, is_past_limits, routines, elements}
+use Rattle.sym_tables.proofs.Changes.{kept_used, kept_given}
+use Rattle.sym_tables.proofs.Meets.{fits_met}
+use Rattle.sym_tables.proofs.Tables.{mark_at, given_at}
+use Rattle.list_laws.proofs.Elements.{all_at}
 use Rattle.program_laws.specs.Settled.{AreOnce}
 use Rattle.program_laws.specs.Growing.{entity_in, standing_in, used_in, entity_at, standing_at, is_used_at, IsMore, IsFurther, Grows, Shows, Covers}
 
@@ -307,6 +312,32 @@ pub record IsEntering (standing : Standing) (said : Entity) (name : List ℕ) (s
   pub accepts : Accepts (symbol_at syms at) standing said
   pub known : symbol_of syms name ≡ symbol_at syms at
   pub once : AreOnce (keys_of syms) → AreOnce (keys_of new)
+  pub sound : IsSound syms → IsSound new
+
+-- no limit is passed, and initial words fit
+within_limits : (known : Option Symbol) (standing : Standing) (said : Entity) (after : Table) → refusal_of known standing said after ≡ None
+    → is_past_limits after ≡ false
+within_limits known standing said after h = by_tests (clashes known said) (repeats known standing) (is_past_limits after) h
+  where
+    by_tests : (c r p : Bool) → (if c then Some TypeClash else (if r then Some Duplicate else (if p then Some TooMany else None))) ≡ None → p ≡ false
+    by_tests true r p e = absurd (let c : Some TypeClash ≡ None = e in cc)
+    by_tests false true p e = absurd (let c : Some Duplicate ≡ None = e in cc)
+    by_tests false false true e = absurd (let c : Some TooMany ≡ None = e in cc)
+    by_tests false false false e = refl
+
+all_put : (P : Symbol → Type 0) (syms : Table) (name : List ℕ) (v : Symbol) → AllByRecursion P (values_of syms) → P v → AllByRecursion P (values_of (put name v syms))
+all_put P [] name v ok good = (good, tt)
+all_put P (e ∷ es) name v ok good = by_test (same_name name e.0) (all_put P es name v ok.1 good)
+  where
+    by_test : (b : Bool) → AllByRecursion P (values_of (put name v es)) → AllByRecursion P (values_of (if b then (e.0, v) ∷ es else e ∷ put name v es))
+    by_test true more = (good, ok.1)
+    by_test false more = (ok.0, more)
+
+met_fits : (standing : Standing) (said : Entity) (syms : Table) (at : ℕ) (o : Option Symbol) → symbol_at syms at ≡ o → Accepts o standing said
+    → AllByRecursion FitsWords (values_of syms) → FitsWords (met standing said [] o)
+met_fits standing said syms at None there ok inits = omega arith
+met_fits standing said syms at (Some s) there ok inits =
+    fits_met standing said [] s ok.0 (all_at FitsWords (values_of syms) at s inits there) (omega arith)
 
 pub entering : (standing : Standing) (said : Entity) (name : List ℕ) (syms : Table) → refusal standing name said [] syms ≡ None
     → IsEntering standing said name syms (place syms name) (enter standing name said [] syms)
@@ -320,6 +351,12 @@ entering standing said name syms ok =
       accepts = subst (λ o. Accepts o standing said) p.known (accepted (symbol_of syms name) standing said (enter standing name said [] syms) ok);
       known = p.known;
       once = p.once;
+      sound = λ s. record {
+        limits = within_limits (symbol_of syms name) standing said (enter standing name said [] syms) ok;
+        inits = all_put FitsWords syms name (met standing said [] (symbol_of syms name)) s.inits
+            (met_fits standing said syms (place syms name) (symbol_of syms name) (sym p.known)
+            (accepted (symbol_of syms name) standing said (enter standing name said [] syms) ok) s.inits);
+      };
     }
 
 -- what a name stands for then, and how far it is defined
@@ -419,9 +456,10 @@ pub record IsMarked (old new : Table) : Type 0 where
   pub entities : (pid : ℕ) → entity_at new pid ≡ entity_at old pid
   pub standings : (pid : ℕ) → standing_at new pid ≡ standing_at old pid
   pub used : (pid : ℕ) → is_used_at old pid ≡ true → is_used_at new pid ≡ true
+  pub sound : IsSound old → IsSound new
 
 pub marked_same : (syms : Table) → IsMarked syms syms
-marked_same syms = record { names = refl; entities = λ pid. refl; standings = λ pid. refl; used = λ pid h. h }
+marked_same syms = record { names = refl; entities = λ pid. refl; standings = λ pid. refl; used = λ pid h. h; sound = λ s. s }
 
 pub marked_then : (a b c : Table) → IsMarked a b → IsMarked b c → IsMarked a c
 marked_then a b c p q = record {
@@ -429,6 +467,7 @@ marked_then a b c p q = record {
   entities = λ pid. q.entities pid ∙ p.entities pid;
   standings = λ pid. q.standings pid ∙ p.standings pid;
   used = λ pid h. q.used pid (p.used pid h);
+  sound = λ s. q.sound (p.sound s);
 }
 
 pub marked_grows : (old new : Table) → IsMarked old new → Grows old new
@@ -439,8 +478,46 @@ marked_grows old new m = record {
   used = m.used;
 }
 
+-- the numbers of a table, as its code keeps them
+kept : (syms : Table) → IsSound syms → IsKept syms (routines syms) (elements syms) 0
+kept syms s = record { sound = s; routines_counted = refl; elements_counted = refl; least_open = tt }
+
+sound_marked : (syms : Table) (at : ℕ) → IsSound syms → IsSound (mark syms at)
+sound_marked syms at s = by_symbol (symbol_at syms at) refl
+  where
+    none : (syms : Table) (at : ℕ) → symbol_at syms at ≡ None → mark syms at ≡ syms
+    none [] at h = refl
+    none (e ∷ es) zero h = absurd (let c : Some e.1 ≡ None = h in cc)
+    none (e ∷ es) (suc at) h = ap (λ l. e ∷ l) (none es at h)
+
+    by_symbol : (o : Option Symbol) → symbol_at syms at ≡ o → IsSound (mark syms at)
+    by_symbol None there = subst IsSound (sym (none syms at there)) s
+    by_symbol (Some x) there =
+        let v : Symbol = record x { used = true } in
+        subst IsSound (mark_at syms at x there)
+        (kept_used syms at (routines syms) (elements syms) 0 (if is_open v then min 0 at else 0) x (is_open v) (kept syms s) there refl refl).sound
+
+sound_initialised : (syms : Table) (at : ℕ) (init : List Word) → IsSound syms → IsSound (initialised syms at init)
+sound_initialised syms at init s = by_symbol (symbol_at syms at) refl
+  where
+    none : (syms : Table) (at : ℕ) → symbol_at syms at ≡ None → initialised syms at init ≡ syms
+    none [] at h = refl
+    none (e ∷ es) zero h = absurd (let c : Some e.1 ≡ None = h in cc)
+    none (e ∷ es) (suc at) h = ap (λ l. e ∷ l) (none es at h)
+
+    by_symbol : (o : Option Symbol) → symbol_at syms at ≡ o → IsSound (initialised syms at init)
+    by_symbol None there = subst IsSound (sym (none syms at there)) s
+    by_symbol (Some x) there =
+        subst IsSound (given_at syms at x init there) (kept_given syms at (routines syms) (elements syms) 0 x init (kept syms s) there).sound
+
 pub marked : (syms : Table) (at : ℕ) → IsMarked syms (mark syms at)
-marked syms at = record { names = names syms at; entities = entities syms at; standings = standings syms at; used = used syms at }
+marked syms at = record {
+  names = names syms at;
+  entities = entities syms at;
+  standings = standings syms at;
+  used = used syms at;
+  sound = sound_marked syms at;
+}
   where
     names : (syms : Table) (at : ℕ) → keys_of (mark syms at) ≡ keys_of syms
     names [] at = refl
@@ -474,7 +551,13 @@ used_now (x ∷ es) zero e h = refl
 used_now (x ∷ es) (suc at) e h = used_now es at e h
 
 pub initialised_marked : (syms : Table) (at : ℕ) (init : List Word) → IsMarked syms (initialised syms at init)
-initialised_marked syms at init = record { names = names syms at; entities = entities syms at; standings = standings syms at; used = used syms at }
+initialised_marked syms at init = record {
+  names = names syms at;
+  entities = entities syms at;
+  standings = standings syms at;
+  used = used syms at;
+  sound = sound_initialised syms at init;
+}
   where
     names : (syms : Table) (at : ℕ) → keys_of (initialised syms at init) ≡ keys_of syms
     names [] at = refl

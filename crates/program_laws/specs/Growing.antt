@@ -1,6 +1,5 @@
 -- How the table of the program's names grows while modules are typed, and which shapes cover it.
 use Rattle.std.specs.Prelude.{◌≡◌, ℕ, Bool, true, false, List, Option, Some, None, is_some, length}
-use Rattle.std.specs.Map.{values_of}
 use Rattle.il_core.specs.declared.shape.Shape.TheVariants as shape
 use Rattle.il_core.specs.declared.shape.ShapeRow.{ShapeRow}
 use Rattle.il_core.specs.Program.{shape_at}

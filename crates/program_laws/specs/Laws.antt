@@ -1,9 +1,8 @@
 -- The laws of typed programs: what lowering asks of the functions and of the table of linked modules holds of modules that
 -- follow the rules of types and linkage one after another, and link.
-use Rattle.std.specs.Prelude.{◌≡◌, ℕ, List, [], ◌∷◌, ◌++◌, Option, Some, None}
+use Rattle.std.specs.Prelude.{◌≡◌, ℕ, List, [], ◌∷◌, ◌++◌, Some, None}
 use Rattle.il_core.specs.Meaning.{Run, il_run}
 use Rattle.il_core.specs.Valid.{IsProgram}
-use Rattle.sym_tables.specs.Sound.{IsSound}
 use Rattle.sym_tables.specs.Table.{Table}
 use Rattle.linker.specs.Linking as linking
 use Rattle.c_tree.specs.declared.declaration.Module.{Module}
@@ -16,7 +15,7 @@ use Rattle.c_types.specs.Typing.{module_rules, start}
 use Rattle.lower_laws.specs.ProgramLaws.{AreLinked, AreFitting}
 use Rattle.lower_laws.specs.Programs.{lowered_program}
 use Rattle.program_laws.specs.Growing.{Grows}
-use Rattle.program_laws.specs.Settled.{AreWhole}
+use Rattle.program_laws.specs.Settled.{AreWhole, Stands}
 use Rattle.program_laws.specs.Typed.{AreTyped, AreTypedAs}
 
 -- Where the rules give a module, whatever its number, behind modules whose functions and table go together: so do its
@@ -25,6 +24,10 @@ abbrev pub TypedModulesFit : Type 0
 TypedModulesFit =
     (number : ℕ) (m : Module) (fs : List Function) (old : Table) (t : TypedModule) (h : Here) → AreWhole fs old
     → module_rules number m (start old) ≡ Gives t h → AreWhole (fs ++ functions_of (t ∷ [])) h.syms × Grows old h.syms
+
+-- a function that stands in a table stands in each table that has grown from it
+abbrev pub FunctionsStandOn : Type 0
+FunctionsStandOn = (old new : Table) → Grows old new → (f : Function) → Stands old f → Stands new f
 
 -- the functions of modules that follow the rules one after another go with the table that they leave
 abbrev pub TypedProgramsAreWhole : Type 0
@@ -39,7 +42,6 @@ TypedModulesAreGiven =
 pub record AreLinking (modules : List Module) (ts : List TypedModule) (syms : Table) : Type 0 where
   pub typed : AreTypedAs 1 [] modules ts syms
   pub links : linking.refusal syms ≡ None
-  pub sound : IsSound syms
 
 -- such modules are linked, and fit one another
 abbrev pub LinkingModulesAreLinked : Type 0

@@ -10,6 +10,7 @@ use Rattle.sym_tables.specs.declared.entity.Entity.TheVariants as entities
 use Rattle.sym_tables.specs.declared.symbol.Standing.{Standing}
 use Rattle.sym_tables.specs.declared.symbol.Standing.TheVariants as standings
 use Rattle.sym_tables.specs.Listing.{shape_of}
+use Rattle.sym_tables.specs.Sound.{IsSound}
 use Rattle.sym_tables.specs.Symbols.{is_declared}
 use Rattle.sym_tables.specs.Table.{Table}
 use Rattle.c_typed.specs.Meaning.{function_at}
@@ -42,13 +43,21 @@ IsProvided has pid standings.Declared = ⊤
 IsProvided has pid standings.Tentative = ⊥
 IsProvided has pid standings.Defined = has pid
 
--- names are distinct, known lengths aren't 0, each function that is defined is there, and each function stands in the table
+-- no two functions have one PID
+abbrev pub HaveOwnPids : List Function → Type 0
+HaveOwnPids [] = ⊤
+HaveOwnPids (f ∷ fs) = AllByRecursion (λ other. other.pid ≢ f.pid) fs × HaveOwnPids fs
+
+-- No limit is passed, names are distinct, known lengths aren't 0, each function that is defined is there, and each function
+-- stands in the table with a PID of its own.
 pub record AreSettled (has : ℕ → Type 0) (fs : List Function) (syms : Table) : Type 0 where
+  pub sound : IsSound syms
   pub names : AreOnce (keys_of syms)
   pub lengths : (pid : ℕ) (ty : Ty) (fixed : Bool) (n : ℕ) → entity_at syms pid ≡ Some (entities.Array ty fixed (Some n)) → 0 < n
   pub routines : (pid : ℕ) (gives : Option Ty) (params : List Ty) (s : Standing) → entity_at syms pid ≡ Some (entities.Function gives params)
       → standing_at syms pid ≡ Some s → IsProvided has pid s
   pub functions : AllByRecursion (Stands syms) fs
+  pub apart : HaveOwnPids fs
 
 -- each array that is defined or tentative has a length
 abbrev pub HaveLengths : Table → Type 0

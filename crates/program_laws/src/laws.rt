@@ -1,11 +1,16 @@
 //! The laws of typed modules and programs.
 
-ghost use Rattle.program_laws.specs.Laws.{TypedModulesFit, TypedProgramsAreWhole, TypedModulesAreGiven};
+ghost use Rattle.program_laws.specs.Laws.{FunctionsStandOn, TypedModulesAreGiven, TypedModulesFit, TypedProgramsAreWhole};
 
 /// The functions of a module that the typing rules give go with the table that it leaves, together with those of
 /// the modules before it, and the table has grown.
 pub fn typed_modules_fit()
     ensures { TypedModulesFit }
+{}
+
+/// A function that stands in a table stands in each table that has grown from it.
+pub fn functions_stand_on()
+    ensures { FunctionsStandOn }
 {}
 
 /// The functions of modules that follow the rules one after another go with the table that they leave.
