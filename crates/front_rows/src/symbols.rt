@@ -47,7 +47,7 @@ fn tentative_object(rt: HostRuntime) -> Result<(), Fail> {
     assert!(rt; first.pid == 0 && first.words == 1 && first.init.is_empty());
     let shapes = syms.shapes()?;
     let row = shapes.rows.as_slice().first().ok_or("no row")?;
-    assert!(rt; row.pid == 0 && row.name.bytes() == b"x");
+    assert!(rt; row.pid == 0 && row.name.bytes() == b"x".as_slice());
     assert!(rt; matches!(row.shape, Shape::Object { words: 1 }));
     Ok(())
 }

@@ -3,6 +3,7 @@ use Rattle.std.proofs.Common.{◌≡◌, ℕ, suc, ◌+◌, ◌<◌, ◌≤◌, 
 use Rattle.std.specs.Prelude.{◌^◌, ◌&&◌, nat_lt, nat_le, if◌then◌else◌, Option, Some, None}
 use Rattle.std.specs.List.{AllByRecursion}
 use Rattle.std.proofs.lemmas.List.{length-append}
+use Rattle.il_core.specs.Limits.{max_pids, max_routines}
 use Rattle.il_core.specs.declared.program.IlProgram.{IlProgram}
 use Rattle.il_core.specs.declared.shape.Shape.TheVariants as shape
 use Rattle.il_core.specs.declared.shape.ShapeRow.{ShapeRow}
@@ -87,7 +88,7 @@ copy_objects p c (Some r) = refl
 module _ (names : List ShapeRow) (once : HasEachNameOnce names) where
   -- one clone
   module _ (st : State) (sound : IsSound names st) (t : Taken) (fits : GroupFits st.program t.group) (above : st.next ≤ t.clone)
-      (room : length st.program.routines < 4096) (in_range : t.clone < 131072) where
+      (room : length st.program.routines < max_routines) (in_range : t.clone < max_pids) where
     abbrev p : IlProgram
     p = st.program
 
@@ -249,11 +250,11 @@ module _ (names : List ShapeRow) (once : HasEachNameOnce names) where
 
     make_one : (g : Group) (gs : List Group) → Rest gs → (b : Spent) (n : Numbers) (st : State) → IsSound names st
         → length st.program.routines ≤ b.routines → st.next ≤ b.next → GroupFits st.program g → AllByRecursion (GroupFits st.program) gs
-        → b.routines < 4096 → b.next < 131072
+        → b.routines < max_routines → b.next < max_pids
         → Added names st (add_clones names ((with_new g b n).taken ++ taken ss table limit (more_spent b n) gs) st)
     make_one g gs rest b n st sound few below fits all room in_range =
         let t : Taken = record { group = g; clone = b.next; is_new = true } in
-        let small : length st.program.routines < 4096 = omega arith in
+        let small : length st.program.routines < max_routines = omega arith in
         let next = add_clone names t st in
         let one = one_added st sound t fits below small in_range in
         let size = one_more st sound t fits below small in_range in
@@ -268,11 +269,11 @@ module _ (names : List ShapeRow) (once : HasEachNameOnce names) where
     fit_one g gs rest b n st false e sound few below fits all = rest b st sound few below all
     fit_one g gs rest b n st true e sound few below fits all =
         let cost = nat_le (b.cost + n.size ^ 2) limit && is_within n in
-        let room = nat_lt b.routines 4096 in
-        let pid = nat_lt b.next 131072 in
+        let room = nat_lt b.routines max_routines in
+        let pid = nat_lt b.next max_pids in
         let first = and_first (cost && room) pid e in
-        make_one g gs rest b n st sound few below fits all (ltb-true b.routines 4096 (and_second cost room first))
-        (ltb-true b.next 131072 (and_second (cost && room) pid e))
+        make_one g gs rest b n st sound few below fits all (ltb-true b.routines max_routines (and_second cost room first))
+        (ltb-true b.next max_pids (and_second (cost && room) pid e))
 
     decide_one : (g : Group) (gs : List Group) → Rest gs → (b : Spent) (st : State) (o : Option ℕ) (m : Option Summary) → IsSound names st
         → length st.program.routines ≤ b.routines → st.next ≤ b.next → GroupFits st.program g → AllByRecursion (GroupFits st.program) gs

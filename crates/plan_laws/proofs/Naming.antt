@@ -5,6 +5,7 @@ use Rattle.std.specs.List.{AllByRecursion}
 use Rattle.std.proofs.lemmas.Bool.{cases_eq}
 use Rattle.std.proofs.lemmas.Fmt.{decimal_injective}
 use Rattle.std.proofs.lemmas.Option.{none-some, same_Some}
+use Rattle.il_core.specs.Limits.{max_pids}
 use Rattle.il_core.specs.declared.shape.ShapeRow.{ShapeRow}
 use Rattle.il_core.specs.Program.{found, name_of_row}
 use Rattle.il_core.specs.Valid.{HasEachNameOnce}
@@ -76,7 +77,7 @@ pub name_is : (names : List ShapeRow) (made : List Made) (root : ℕ) (r : Shape
     → clone_name names made root ≡ r.name ++ 36 ∷ decimal (suc (clones_of made root))
 name_is names made root r e = ap (λ (o : Option ShapeRow). name_of_row o ++ 36 ∷ decimal (suc (clones_of made root))) e
 
-module _ (names : List ShapeRow) (once : HasEachNameOnce names) (made : List Made) (few : length made < 131072)
+module _ (names : List ShapeRow) (once : HasEachNameOnce names) (made : List Made) (few : length made < max_pids)
     (root : ℕ) (r : ShapeRow) (is_root : found (λ z. z.pid) root names ≡ Some r) (plain : NoDollar r.name) where
   abbrev new_name : List ℕ
   new_name = clone_name names made root

@@ -4,7 +4,7 @@ use Rattle.std.specs.Prelude.{◌^◌, ◌&&◌, nat_le, nat_lt, if◌then◌els
 use Rattle.std.specs.List.{AllByRecursion, list_all}
 use Rattle.il_core.specs.declared.program.IlProgram.{IlProgram}
 use Rattle.il_core.specs.declared.shape.ShapeRow.{ShapeRow}
-use Rattle.il_core.specs.Limits.{IsPid, IsWithinLimits}
+use Rattle.il_core.specs.Limits.{IsPid, IsWithinLimits, max_arrays, max_elements, max_pids, max_registers, max_routines, max_size}
 use Rattle.il_core.specs.Program.{routine_at, main_pid}
 use Rattle.il_core.specs.Routine.{RoutineParts}
 use Rattle.il_core.specs.Size.{size, cost}
@@ -47,10 +47,10 @@ AllWithin rs = AllByRecursion IsWithinLimits rs
 -- the routines are within the limits, and so is the next PID
 pub record IsLimited (st : State) : Type 0 where
   pub each : AllWithin st.program.routines
-  pub next : st.next ≤ 131072
+  pub next : st.next ≤ max_pids
 
 -- a clone with the numbers that its group was decided by
-new_within : (r : RoutineParts) (c : NewClone) → 0 < length r.blocks → IsWithinLimits r → IsPid c.pid → (clone_numbers (summary r) c.fixed).size ≤ 65536
+new_within : (r : RoutineParts) (c : NewClone) → 0 < length r.blocks → IsWithinLimits r → IsPid c.pid → (clone_numbers (summary r) c.fixed).size ≤ max_size
     → IsWithinLimits (make_clone r c.pid c.fixed)
 new_within r c some h pid le =
     let size = clone_size r c.pid c.fixed some in
@@ -81,7 +81,7 @@ module _ (names : List ShapeRow) (p : IlProgram) (valid : IsProgram p) (table : 
   copy_stands q c (Some z) x r e = found_left (λ (y : RoutineParts). y.pid) x q.routines (make_clone z c.pid c.fixed ∷ []) r e
 
   make_one : (g : Group) (gs : List Group) → Rest gs → (b : Spent) (s : Summary) (st : State) → summary_at ss g.callee ≡ Some s
-      → IsLimited st → Stand st → b.next < 131072 → (clone_numbers s g.fixed).size ≤ 65536
+      → IsLimited st → Stand st → b.next < max_pids → (clone_numbers s g.fixed).size ≤ max_size
       → IsLimited (add_clones names ((with_new g b (clone_numbers s g.fixed)).taken ++ taken ss table limit (more_spent b (clone_numbers s g.fixed)) gs) st)
   make_one g gs rest b s st e h stand pid le =
       let f = routine_of names p valid table limit g.callee s (routine_at p.routines g.callee) refl (sym (summary_found p.routines g.callee) ∙ e) in
@@ -101,12 +101,12 @@ module _ (names : List ShapeRow) (p : IlProgram) (valid : IsProgram p) (table : 
       })
       (λ x q eq. copy_stands st.program c (routine_at st.program.routines g.callee) x q (stand x q eq))
 
-  size_within : (n : Numbers) → is_within n ≡ true → n.size ≤ 65536
+  size_within : (n : Numbers) → is_within n ≡ true → n.size ≤ max_size
   size_within n e =
-      let a = nat_le n.size 65536 in
-      let b = nat_le n.regs 32768 in
-      let c = nat_le n.arrays 4096 in
-      leb-true n.size 65536 (and_first a b (and_first (a && b) c (and_first (a && b && c) (nat_le n.elements 1048576) e)))
+      let a = nat_le n.size max_size in
+      let b = nat_le n.regs max_registers in
+      let c = nat_le n.arrays max_arrays in
+      leb-true n.size max_size (and_first a b (and_first (a && b) c (and_first (a && b && c) (nat_le n.elements max_elements) e)))
 
   fit_one : (g : Group) (gs : List Group) → Rest gs → (b : Spent) (s : Summary) (st : State) (k : Bool)
       → clone_fits b limit (clone_numbers s g.fixed) ≡ k → summary_at ss g.callee ≡ Some s → IsLimited st → Stand st
@@ -117,11 +117,11 @@ module _ (names : List ShapeRow) (p : IlProgram) (valid : IsProgram p) (table : 
   fit_one g gs rest b s st true ek e h stand =
       let n = clone_numbers s g.fixed in
       let cost_ok = nat_le (b.cost + n.size ^ 2) limit in
-      let room = nat_lt b.routines 4096 in
-      let one = and_first (cost_ok && is_within n && room) (nat_lt b.next 131072) ek in
-      let pid = and_second (cost_ok && is_within n && room) (nat_lt b.next 131072) ek in
+      let room = nat_lt b.routines max_routines in
+      let one = and_first (cost_ok && is_within n && room) (nat_lt b.next max_pids) ek in
+      let pid = and_second (cost_ok && is_within n && room) (nat_lt b.next max_pids) ek in
       let two = and_first (cost_ok && is_within n) room one in
-      make_one g gs rest b s st e h stand (ltb-true b.next 131072 pid) (size_within n (and_second cost_ok (is_within n) two))
+      make_one g gs rest b s st e h stand (ltb-true b.next max_pids pid) (size_within n (and_second cost_ok (is_within n) two))
 
   decide_one : (g : Group) (gs : List Group) → Rest gs → (b : Spent) (st : State) (o : Option ℕ) (m : Option Summary)
       → summary_at ss g.callee ≡ m → IsLimited st → Stand st
@@ -191,14 +191,14 @@ module _ (p : IlProgram) (valid : IsProgram p) (cs : List Choice) (all : AllWith
       let n = inlined_numbers (summaries p) cs (summary r) in
       let is = numbers_are p valid cs r.pid r here in
       let serves = by_serves p valid cs (suc (length cs)) r.pid r here in
-      let a = nat_le n.size 65536 in
-      let b = nat_le n.regs 32768 in
-      let c = nat_le n.arrays 4096 in
-      let d = nat_le n.elements 1048576 in
-      let size = leb-true n.size 65536 (and_first a b (and_first (a && b) c (and_first (a && b && c) d e))) in
-      let regs = leb-true n.regs 32768 (and_second a b (and_first (a && b) c (and_first (a && b && c) d e))) in
-      let arrays = leb-true n.arrays 4096 (and_second (a && b) c (and_first (a && b && c) d e)) in
-      let elements = leb-true n.elements 1048576 (and_second (a && b && c) d e) in
+      let a = nat_le n.size max_size in
+      let b = nat_le n.regs max_registers in
+      let c = nat_le n.arrays max_arrays in
+      let d = nat_le n.elements max_elements in
+      let size = leb-true n.size max_size (and_first a b (and_first (a && b) c (and_first (a && b && c) d e))) in
+      let regs = leb-true n.regs max_registers (and_second a b (and_first (a && b) c (and_first (a && b && c) d e))) in
+      let arrays = leb-true n.arrays max_arrays (and_second (a && b) c (and_first (a && b && c) d e)) in
+      let elements = leb-true n.elements max_elements (and_second (a && b && c) d e) in
       let pid = h.pid in
       let params = h.params in
       let same_pid = serves.pid in
@@ -230,13 +230,13 @@ module _ (p : IlProgram) (valid : IsProgram p) (cs : List Choice) (all : AllWith
 own_within : (known : List Summary) (r : RoutineParts) → IsWithinLimits r → is_within (inlined_numbers known [] (summary r)) ≡ true
 own_within known r h =
     let none = ap (λ xs. is_within (with_calls known (numbers known [] 0) (own (summary r)) xs)) (none_chosen r.pid 0 (known_sites r)) in
-    let size = le-leb (size r) 65536 h.size in
-    let regs = le-leb r.regs 32768 h.regs in
-    let arrays = le-leb (length r.arrays) 4096 h.arrays in
-    let elements = le-leb (sum r.arrays) 1048576 h.elements in
-    none ∙ ap (λ (b : Bool). b && nat_le r.regs 32768 && nat_le (length r.arrays) 4096 && nat_le (sum r.arrays) 1048576) size
-    ∙ ap (λ (b : Bool). b && nat_le (length r.arrays) 4096 && nat_le (sum r.arrays) 1048576) regs
-    ∙ ap (λ (b : Bool). b && nat_le (sum r.arrays) 1048576) arrays ∙ elements
+    let size = le-leb (size r) max_size h.size in
+    let regs = le-leb r.regs max_registers h.regs in
+    let arrays = le-leb (length r.arrays) max_arrays h.arrays in
+    let elements = le-leb (sum r.arrays) max_elements h.elements in
+    none ∙ ap (λ (b : Bool). b && nat_le r.regs max_registers && nat_le (length r.arrays) max_arrays && nat_le (sum r.arrays) max_elements) size
+    ∙ ap (λ (b : Bool). b && nat_le (length r.arrays) max_arrays && nat_le (sum r.arrays) max_elements) regs
+    ∙ ap (λ (b : Bool). b && nat_le (sum r.arrays) max_elements) arrays ∙ elements
 
 all_own : (known : List Summary) (rs : List RoutineParts) → AllWithin rs → list_all (λ s. is_within (inlined_numbers known [] s)) (map summary rs) ≡ true
 all_own known [] h = refl
@@ -298,7 +298,7 @@ module _ (names : List ShapeRow) (once : HasEachNameOnce names) where
       let rest = passes_limited budget limit left (suc k) x.pruned (pass_succeeds names once budget (limit k) st sound).pruned.sound l.pruned in
       (l.added.each, (l.retargeted.each, (l.simplified.each, (l.inlined.each, (l.simplified_again.each, (l.pruned.each, rest))))))
 
-greatest_pid : (rows : List ShapeRow) → AllByRecursion (λ row. IsPid row.pid) rows → greatest (λ (z : ShapeRow). suc z.pid) rows ≤ 131072
+greatest_pid : (rows : List ShapeRow) → AllByRecursion (λ row. IsPid row.pid) rows → greatest (λ (z : ShapeRow). suc z.pid) rows ≤ max_pids
 greatest_pid [] h = omega arith
 greatest_pid (z ∷ rows) h = let lt = h.0 in let rest = greatest_pid rows h.1 in omega arith
 

@@ -6,6 +6,7 @@ use Rattle.std.proofs.lemmas.List.Sums.{sum_by-cons, sum_by-append}
 use Rattle.std.proofs.lemmas.Nat.{le-div}
 use Rattle.std.proofs.lemmas.Option.{none-some, same_Some}
 use Rattle.std.proofs.Math.Nat.{pow-le-pow_left, div-mul-le_self, mul-le-mul_left, mul_assoc, le_of_mul-le-mul_right}
+use Rattle.il_core.specs.Limits.{max_pids, max_routines}
 use Rattle.il_core.specs.declared.instr.Block.{Block}
 use Rattle.il_core.specs.declared.instr.Instr.{Instr}
 use Rattle.il_core.specs.declared.program.IlProgram.{IlProgram}
@@ -153,8 +154,8 @@ module _ (names : List ShapeRow) (p : IlProgram) (valid : IsProgram p) (table : 
   fit_cost g gs rest b s st true ek e le within stand =
       let n = clone_numbers s g.fixed in
       let cost_ok = nat_le (b.cost + n.size ^ 2) limit in
-      let room = nat_lt b.routines 4096 in
-      let one = and_first (cost_ok && is_within n && room) (nat_lt b.next 131072) ek in
+      let room = nat_lt b.routines max_routines in
+      let one = and_first (cost_ok && is_within n && room) (nat_lt b.next max_pids) ek in
       let two = and_first (cost_ok && is_within n) room one in
       let three = and_first cost_ok (is_within n) two in
       make_cost g gs rest b s st e le (leb-true (b.cost + n.size ^ 2) limit three) stand

@@ -3,6 +3,7 @@ use Rattle.std.specs.Prelude.{ℕ, suc, ◌+◌, ◌^◌, ◌&&◌, not, Bool, t
 use Rattle.il_laws.specs.Clone.{Fixed}
 use Rattle.il_laws.specs.Retarget.{SiteMove}
 use Rattle.il_laws.specs.Table.{Row}
+use Rattle.il_core.specs.Limits.{max_pids, max_routines}
 use Rattle.plan_laws.specs.Orders.{less_or, sorted}
 use Rattle.plan_laws.specs.Summary.{Summary, summary_at, cost_of, CallSite, call_sites}
 use Rattle.plan_laws.specs.Numbers.{Numbers, is_within}
@@ -115,7 +116,7 @@ pub record Spent : Type 0 where
   pub next : ℕ
 
 abbrev pub clone_fits : Spent → ℕ → Numbers → Bool
-clone_fits b limit n = nat_le (b.cost + n.size ^ 2) limit && is_within n && nat_lt b.routines 4096 && nat_lt b.next 131072
+clone_fits b limit n = nat_le (b.cost + n.size ^ 2) limit && is_within n && nat_lt b.routines max_routines && nat_lt b.next max_pids
 
 abbrev pub more_spent : Spent → Numbers → Spent
 more_spent b n = record { cost = b.cost + n.size ^ 2; routines = suc b.routines; next = suc b.next }

@@ -1,6 +1,7 @@
 -- How large routines are with all that is inlined into them, by recursion over the accepted calls.
 use Rattle.std.specs.Prelude.{ℕ, zero, suc, ◌+◌, ◌^◌, ◌&&◌, ◌||◌, Bool, true, false, List, [], ◌∷◌, length, Option, Some, None, nat_eq, nat_le, sum_by}
 use Rattle.il_laws.specs.Known.{KnownSite}
+use Rattle.il_core.specs.Limits.{max_arrays, max_elements, max_registers, max_size}
 use Rattle.plan_laws.specs.Summary.{Summary, summary_at}
 
 -- an accepted call: the site of its caller, and its callee
@@ -71,7 +72,7 @@ inlined_numbers ss cs s = numbers ss cs (suc (length cs)) s
 
 -- the limits of a routine's size, registers, arrays and elements
 abbrev pub is_within : Numbers → Bool
-is_within n = nat_le n.size 65536 && nat_le n.regs 32768 && nat_le n.arrays 4096 && nat_le n.elements 1048576
+is_within n = nat_le n.size max_size && nat_le n.regs max_registers && nat_le n.arrays max_arrays && nat_le n.elements max_elements
 
 abbrev pub cost_after : List Summary → List Choice → ℕ
 cost_after ss cs = sum_by (λ s. (inlined_numbers ss cs s).size ^ 2) ss
