@@ -153,7 +153,8 @@ module _ (number : ℕ) (has : ℕ → Type 0) (fs : List Function) where
       settled_function has fs old gives params has (λ pid h. h) (λ s is before. by_symbol (symbol_at syms at) refl s is before x.accepts) x
     where
       by_symbol : (o : Option Symbol) → symbol_at syms at ≡ o → (s : Standing) → standing_at new at ≡ Some s
-          → ((r : Option Ty) (ps : List Ty) (t : Standing) → entity_at syms at ≡ Some (entities.Function r ps) → standing_at syms at ≡ Some t → IsProvided has at t)
+          → ((r : Option Ty) (ps : List Ty) (t : Standing) → entity_at syms at ≡ Some (entities.Function r ps) → standing_at syms at ≡ Some t
+          → IsProvided has at t)
           → Accepts (symbol_at syms at) standings.Declared (entities.Function gives params) → IsProvided has at s
       by_symbol None there s is before ok =
           let declared : standings.Declared ≡ s = some_is (ap (λ o. Some (standing_met o standings.Declared)) (sym there) ∙ sym (standing_here x) ∙ is) in
@@ -191,7 +192,8 @@ module _ (number : ℕ) (has : ℕ → Type 0) (fs : List Function) where
   library_plain false true = tt
   library_plain false false = tt
 
-  library_declares : (x : Identifier) (storage : Option Storage) (said : Entity) (defines : Bool) → Files number has fs Any (rules.declare_library x storage said defines)
+  library_declares : (x : Identifier) (storage : Option Storage) (said : Entity) (defines : Bool)
+      → Files number has fs Any (rules.declare_library x storage said defines)
   library_declares x storage said defines = record {
     by = λ h hold. by_type h hold (not defines && not (rules.is_static storage) && rules.is_library_type (rules.library_entity x.name) said);
   }
@@ -213,7 +215,8 @@ module _ (number : ℕ) (has : ℕ → Type 0) (fs : List Function) where
       )
 
       by_type : (h : Here) → Holding number has fs h → (b : Bool) → FileHolds number has fs h Any
-          ((unless b x.line kinds.Library >>= λ u. (known (bound_here x.name) >>= λ old. (unless (not (rules.is_bound_otherwise old)) x.line kinds.Redeclared >>= λ u1.
+          ((unless b x.line kinds.Library
+          >>= λ u. (known (bound_here x.name) >>= λ old. (unless (not (rules.is_bound_otherwise old)) x.line kinds.Redeclared >>= λ u1.
           change (bind x.name (rules.library_binding x.name))))) h)
       by_type h hold true = by_old h hold (rules.is_bound_otherwise (bound_here x.name h)) refl
       by_type h hold false = tt

@@ -124,7 +124,8 @@ module _ (number : ℕ) where
         files = λ name y is.
             file_outer name b.names.depth b.names.declared (λ e. absurd (omega (arith, e, depth)))
             ∙ x.files name y
-            (ap (λ l. at_file name (l ++ h.names.declared)) aside.names ∙ file_inner name 1 aside.before h.names.declared (λ e. absurd (omega (arith, e))) ∙ is);
+            (ap (λ l. at_file name (l ++ h.names.declared)) aside.names
+            ∙ file_inner name 1 aside.before h.names.declared (λ e. absurd (omega (arith, e))) ∙ is);
         awaited = x.awaited;
         table = x.table;
       }
@@ -211,7 +212,8 @@ module _ (number : ℕ) (fs : List Function) where
   abbrev HasOthers : ℕ → ℕ → Type 0
   HasOthers pid p = (p ≡ pid → ⊥) → HasFunction fs p
 
-  provided_with : (t : TypedFunction) (pid : ℕ) (p : ℕ) (s : Standing) → t.pid ≡ pid → IsProvided (HasOthers pid) p s → IsProvided (HasFunction (with_one t)) p s
+  provided_with : (t : TypedFunction) (pid : ℕ) (p : ℕ) (s : Standing) → t.pid ≡ pid → IsProvided (HasOthers pid) p s
+      → IsProvided (HasFunction (with_one t)) p s
   provided_with t pid p standings.Declared is ok = tt
   provided_with t pid p standings.Tentative is ok = ok
   provided_with t pid p standings.Defined is ok =
@@ -276,13 +278,15 @@ module _ (number : ℕ) (fs : List Function) where
       → length types ≤ length f.parameters → IsAside number h.syms names → DefinedHolds h (fronted number f sp types names h)
   front_does f sp types names h hold le aside = by_library (not (is_library f.name.name))
     where
-      bodied_does : (l : Linked) (g : Here) (k : IsLinked number f.name.name standings.Defined (entities.Function sp.ty types) h l g) (params : List TypedParameter)
+      bodied_does : (l : Linked) (g : Here) (k : IsLinked number f.name.name standings.Defined (entities.Function sp.ty types) h l g)
+          (params : List TypedParameter)
           → length params ≡ length types → (r : Reply TypedFunction)
           → BodyHolds number l.pid sp.ty params (bind f.name.name (bindings.Function l.pid l.internal) g) r → DefinedHolds h r
       bodied_does l g k params count (Gives t e) x = holding_defined sp types h hold f.name.name l g k params t e count x
       bodied_does l g k params count (Breaks line kind) x = tt
 
-      named : (l : Linked) (g : Here) (k : IsLinked number f.name.name standings.Defined (entities.Function sp.ty types) h l g) → (r : Reply (List TypedParameter))
+      named : (l : Linked) (g : Here) (k : IsLinked number f.name.name standings.Defined (entities.Function sp.ty types) h l g)
+          → (r : Reply (List TypedParameter))
           → NamedHolds (bind f.name.name (bindings.Function l.pid l.internal) g) types f.parameters r
           → DefinedHolds h (followed r (λ params. bodied l.pid sp.ty params names f.body))
       named l g k (Gives params e) ok =

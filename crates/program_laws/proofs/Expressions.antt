@@ -120,7 +120,8 @@ module _ (number : ℕ) (rows : List ShapeRow) where
   pub valued_fine : (e : Typing) → IsFine e → Fine FitsValued (rules.valued e)
   valued_fine e ok = fine.and number rows ok.typed (λ t. valued_of_fine e.line t.ty t.expr)
 
-  constant_valued_of_fine : (line : ℕ) (ty : Option Ty) (v : Evaluated) → Fine (λ x. Unit {0} → Any x) (rules.constant_valued_of line (record { ty = ty; value = v }))
+  constant_valued_of_fine : (line : ℕ) (ty : Option Ty) (v : Evaluated)
+      → Fine (λ x. Unit {0} → Any x) (rules.constant_valued_of line (record { ty = ty; value = v }))
   constant_valued_of_fine line None v = fine.breaks number rows line kinds.VoidValue
   constant_valued_of_fine line (Some ty) v = fine.gives number rows (record { ty = ty; value = v }) (λ a. tt)
 
@@ -139,7 +140,8 @@ module _ (number : ℕ) (rows : List ShapeRow) where
 
   -- ## Names
 
-  shows_object : (pid : ℕ) (ty : Ty) (fixed : Bool) (extent : Extent) (e : Entity) → IsMore (object_entity ty fixed extent) e → Shows rows pid e → NamesObject rows pid
+  shows_object : (pid : ℕ) (ty : Ty) (fixed : Bool) (extent : Extent) (e : Entity) → IsMore (object_entity ty fixed extent) e → Shows rows pid e
+      → NamesObject rows pid
   shows_object pid ty fixed extents.Scalar e more h = subst (λ x. Shows rows pid x) more h
   shows_object pid ty fixed (extents.Array (Some n)) e more h = subst (λ x. Shows rows pid x) more h
   shows_object pid ty fixed (extents.Array None) e more h = subst (λ x. Shows rows pid x) more.1 h
@@ -179,7 +181,8 @@ module _ (number : ℕ) (rows : List ShapeRow) where
   use_name_fine line (bindings.Parameter place ty fixed) =
       fine.gives number rows (read ty (variable (variables.Parameter place))) (read_variable ty (variables.Parameter place) tt)
 
-  written_fine : {Asked : Here → Type 0} (line : ℕ) (fixed : Bool) (ty : Ty) (x : Variable) → FitsVariable rows x → FineIf Asked FitsTarget (written line fixed ty x)
+  written_fine : {Asked : Here → Type 0} (line : ℕ) (fixed : Bool) (ty : Ty) (x : Variable) → FitsVariable rows x
+      → FineIf Asked FitsTarget (written line fixed ty x)
   written_fine line fixed ty x ok =
       fine.if_tests number rows (not fixed) line kinds.ConstWrite
       (λ u e. fine.gives number rows (record { ty = ty; place = variable x }) (spot (Place-F.Variable x) ok))

@@ -96,7 +96,8 @@ module _ (number : ℕ) (rows : List ShapeRow) where
   if_tests false line kind p = record { by = λ h ok asked. tt }
 
   pub if_changes : {B : Type 0} {Asked Then : Here → Type 0} {Q : B → Type 0} {next : Unit {0} → Rule B} (f : Here → Here)
-      → ((h : Here) → IsOk number h → Asked h → After number h (f h) × Then (f h)) → ((u : Unit {0}) → FineIf Then Q (next u)) → FineIf Asked Q (change f >>= next)
+      → ((h : Here) → IsOk number h → Asked h → After number h (f h) × Then (f h)) → ((u : Unit {0}) → FineIf Then Q (next u))
+      → FineIf Asked Q (change f >>= next)
   if_changes {B} {Asked} {Then} {Q} {next} f ok p = record {
     by = λ h sound asked. let x = ok h sound asked in onward Q h (f h) x.0 (next tt (f h)) ((p tt).by (f h) x.0.ok x.1);
   }
@@ -204,7 +205,8 @@ module _ (number : ℕ) (rows : List ShapeRow) where
   pub binds_new : {B : Type 0} {Asked : Here → Type 0} {Q : B → Type 0} {next : Unit {0} → Rule B} (name : List ℕ) (b : Binding)
       → ((h : Here) → Asked h → bound_here name h ≡ None) → IsPlain b → ((u : Unit {0}) → Fine Q (next u)) → FineIf Asked Q (change (bind name b) >>= next)
   binds_new name b none plain p =
-      if_changes (bind name b) (λ h ok asked. (after_bound number name b h ok (plain_coherent h.syms name b plain) (fresh_if number name h ok (none h asked)), tt)) p
+      if_changes (bind name b)
+      (λ h ok asked. (after_bound number name b h ok (plain_coherent h.syms name b plain) (fresh_if number name h ok (none h asked)), tt)) p
 
   pub binds_end : {Asked : Here → Type 0} {Q : Unit {0} → Type 0} (name : List ℕ) (b : Binding) → ((h : Here) → Asked h → bound_here name h ≡ None)
       → IsPlain b → Q tt → FineIf Asked Q (change (bind name b))

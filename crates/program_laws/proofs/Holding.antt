@@ -98,12 +98,14 @@ HasGoodLength extents.Scalar = ⊤
 HasGoodLength (extents.Array None) = ⊤
 HasGoodLength (extents.Array (Some n)) = 0 < n
 
-no_function : (ty : Ty) (fixed : Bool) (extent : Extent) (gives : Option Ty) (params : List Ty) → IsMore (object_entity ty fixed extent) (entities.Function gives params) → ⊥
+no_function : (ty : Ty) (fixed : Bool) (extent : Extent) (gives : Option Ty) (params : List Ty)
+    → IsMore (object_entity ty fixed extent) (entities.Function gives params) → ⊥
 no_function ty fixed extents.Scalar gives params more = function_scalar more
 no_function ty fixed (extents.Array (Some n)) gives params more = array_function (sym more)
 no_function ty fixed (extents.Array None) gives params more = array_function (sym more.1)
 
-module _ {standing : Standing} {name : List ℕ} {syms : Table} {at : ℕ} {new : Table} (has : ℕ → Type 0) (fs : List Function) (old : AreSettled has fs syms) where
+module _ {standing : Standing} {name : List ℕ} {syms : Table} {at : ℕ} {new : Table} (has : ℕ → Type 0) (fs : List Function)
+    (old : AreSettled has fs syms) where
   -- an object's name
   pub settled_object : (ty : Ty) (fixed : Bool) (extent : Extent) → HasGoodLength extent
       → IsEntering standing (object_entity ty fixed extent) name syms at new → AreSettled has fs new
@@ -133,7 +135,8 @@ module _ {standing : Standing} {name : List ℕ} {syms : Table} {at : ℕ} {new 
       by_lacks t f n e true there is = from_said t f n extent good is
       by_lacks t f n e false there is = old.lengths at t f n (there ∙ ap Some is)
 
-      from_known : (t : Ty) (f : Bool) (n : ℕ) (o : Option Symbol) → symbol_at syms at ≡ o → entity_met o (object_entity ty fixed extent) ≡ entities.Array t f (Some n)
+      from_known : (t : Ty) (f : Bool) (n : ℕ) (o : Option Symbol) → symbol_at syms at ≡ o
+          → entity_met o (object_entity ty fixed extent) ≡ entities.Array t f (Some n)
           → 0 < n
       from_known t f n None there is = from_said t f n extent good is
       from_known t f n (Some s) there is = by_lacks t f n s.entity (lacks_length s.entity) (ap entity_in there) is

@@ -161,7 +161,8 @@ is_function_shape (entities.Array ty fixed len) n b is = absurd (differ is)
     differ e = cc
 
 -- a name that has a symbol has its PID
-named_if : (syms : Table) (name : List ℕ) (s : Symbol) → symbol_of syms name ≡ Some s → IsNamed syms name (place syms name) × (symbol_at syms (place syms name) ≡ Some s)
+named_if : (syms : Table) (name : List ℕ) (s : Symbol) → symbol_of syms name ≡ Some s → IsNamed syms name (place syms name)
+    × (symbol_at syms (place syms name) ≡ Some s)
 named_if [] name s is = absurd (let c : None ≡ Some s = is in cc)
 named_if (e ∷ es) name s is = by_test (same_name name e.0) refl is (named_if es name s)
   where
@@ -237,8 +238,10 @@ module _ (fs : List Function) (syms : Table) (whole : AreWhole fs syms) where
           where
             has : (st : Standing) → s.standing ≡ st → is_some (function_at fs pid) ≡ true
             has standings.Declared st = absurd (true≢false (ap is_declared (sym st) ∙ provided pid s there used))
-            has standings.Tentative st = absurd (whole.settled.routines pid r ps standings.Tentative (ap entity_in there ∙ ap Some same) (ap standing_in there ∙ ap Some st))
-            has standings.Defined st = whole.settled.routines pid r ps standings.Defined (ap entity_in there ∙ ap Some same) (ap standing_in there ∙ ap Some st)
+            has standings.Tentative st = absurd
+                (whole.settled.routines pid r ps standings.Tentative (ap entity_in there ∙ ap Some same) (ap standing_in there ∙ ap Some st))
+            has standings.Defined st = whole.settled.routines pid r ps standings.Defined (ap entity_in there ∙ ap Some same)
+                (ap standing_in there ∙ ap Some st)
         by_entity s there used (entities.Scalar ty fixed) same =
             object_shape pid 1 s there (provided pid s there used) (subst (λ y. 0 < words y) (sym same) (omega arith)) (ap shape_of same)
         by_entity s there used (entities.Array ty fixed (Some n)) same =
@@ -262,7 +265,8 @@ module _ (fs : List Function) (syms : Table) (whole : AreWhole fs syms) where
       flipped true e = absurd (false≢true e)
       flipped false e = refl
 
-  main_shape : (e : Entity) → linking.is_main_type e ≡ true → (r : Option Ty) × (ps : List Ty) × (e ≡ entities.Function r ps) × (shape_of e ≡ shape.Routine 0 true)
+  main_shape : (e : Entity) → linking.is_main_type e ≡ true → (r : Option Ty) × (ps : List Ty) × (e ≡ entities.Function r ps)
+      × (shape_of e ≡ shape.Routine 0 true)
   main_shape (entities.Function None ps) is = absurd (false≢true is)
   main_shape (entities.Function (Some ty) ps) is =
       (Some ty, ps, refl, ap (λ n. shape.Routine n true) (eqb-true (length ps) 0 (and_right (same_type ty Int) (length ps == 0) is)))
@@ -273,7 +277,8 @@ module _ (fs : List Function) (syms : Table) (whole : AreWhole fs syms) where
   main_shape (entities.Scalar ty fixed) is = absurd (false≢true is)
   main_shape (entities.Array ty fixed len) is = absurd (false≢true is)
 
-  main_has : (pid : ℕ) (s : Symbol) → symbol_at syms pid ≡ Some s → is_declared s.standing ≡ false → (r : Option Ty) (ps : List Ty) → s.entity ≡ entities.Function r ps
+  main_has : (pid : ℕ) (s : Symbol) → symbol_at syms pid ≡ Some s → is_declared s.standing ≡ false → (r : Option Ty) (ps : List Ty)
+      → s.entity ≡ entities.Function r ps
       → HasFunction fs pid
   main_has pid s there given r ps is = by_standing s.standing refl given
     where

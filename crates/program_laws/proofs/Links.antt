@@ -59,7 +59,9 @@ linkage_does line storage function old h = by_static (rules.is_static storage)
     plain true is = tt
     plain false is = (refl, internal_is old false is)
 
-    by_extern : (b : Bool) → LinkageHolds h old ((if b then give (rules.was_internal old) else (unless (not (rules.was_internal old)) line kinds.Linkage >>= λ u. give false)) h)
+    by_extern : (b : Bool)
+        → LinkageHolds h old
+        ((if b then give (rules.was_internal old) else (unless (not (rules.was_internal old)) line kinds.Linkage >>= λ u. give false)) h)
     by_extern true = (refl, internal_is old (rules.was_internal old) refl)
     by_extern false = plain (rules.was_internal old) refl
 

@@ -166,7 +166,9 @@ module _ (number : ℕ) where
       ended ts g there grows (Breaks line kind) ok = tt
 
       itemised : (r : Reply (List TypedFunction)) → ItemsHold fs h r
-          → ModuleHolds fs h (followed r (λ functions. (known (λ (g : Here). g.awaited) >>= λ awaited. (rules.all_lengths awaited >> give (record { functions = functions })))))
+          → ModuleHolds fs h
+          (followed r
+          (λ functions. (known (λ (g : Here). g.awaited) >>= λ awaited. (rules.all_lengths awaited >> give (record { functions = functions })))))
       itemised (Gives ts g) ok = ended ts g ok.0 ok.1 (rules.all_lengths g.awaited g) (lengths_do g.awaited g)
       itemised (Breaks line kind) ok = tt
 
@@ -209,7 +211,8 @@ none_whole = record {
   bound = tt;
 }
 
-functions_more : (fs : List Function) (t : TypedModule) (ts : List TypedModule) → (fs ++ functions_of (t ∷ [])) ++ functions_of ts ≡ fs ++ functions_of (t ∷ ts)
+functions_more : (fs : List Function) (t : TypedModule) (ts : List TypedModule)
+    → (fs ++ functions_of (t ∷ [])) ++ functions_of ts ≡ fs ++ functions_of (t ∷ ts)
 functions_more fs t ts =
     append_assoc fs (functions_of (t ∷ [])) (functions_of ts)
     ∙ ap (λ l. fs ++ l) (ap (λ l. l ++ functions_of ts) (append_none (map function_of t.functions)))

@@ -114,7 +114,8 @@ said_none (extents.Array (Some n)) (Some (bindings.Local p t f y)) e = e
 said_none (extents.Array (Some n)) (Some (bindings.Parameter p t f)) e = e
 said_none (extents.Array (Some n)) (Some (bindings.Object p i t f y)) e = e
 
-lacking_extent : (ty : Ty) (fixed : Bool) (y : Extent) (t : Ty) (f : Bool) → IsMore (object_entity ty fixed y) (entities.Array t f None) → y ≡ extents.Array None
+lacking_extent : (ty : Ty) (fixed : Bool) (y : Extent) (t : Ty) (f : Bool) → IsMore (object_entity ty fixed y) (entities.Array t f None)
+    → y ≡ extents.Array None
 lacking_extent ty fixed extents.Scalar t f more = absurd (array_scalar more)
 lacking_extent ty fixed (extents.Array (Some n)) t f more = absurd (let c : None ≡ Some n = array_length more in cc)
 lacking_extent ty fixed (extents.Array None) t f more = refl
@@ -260,7 +261,8 @@ module _ (number : ℕ) (has : ℕ → Type 0) (fs : List Function) (name : List
 
       standing_is : (o : Option Symbol) → symbol_at h.syms l.pid ≡ o → standing_met o standings.Declared ≡ s
       standing_is o there =
-          some_is (ap (λ x. Some (standing_met o x)) (sym declared) ∙ ap (λ x. Some (standing_met x standing)) (sym there) ∙ sym (standing_here k.entering) ∙ st)
+          some_is (ap (λ x. Some (standing_met o x)) (sym declared) ∙ ap (λ x. Some (standing_met x standing)) (sym there)
+          ∙ sym (standing_here k.entering) ∙ st)
 
       entity_is : (o : Option Symbol) → symbol_at h.syms l.pid ≡ o → entity_met o (object_entity ty fixed said) ≡ entities.Array t f None
       entity_is o there = some_is (ap (λ x. Some (entity_met x (object_entity ty fixed said))) (sym there) ∙ sym (entity_here k.entering) ∙ is)
@@ -289,7 +291,8 @@ module _ (number : ℕ) where
 
   words_fine : (line : ℕ) (ty : Ty) (x : Extent) (i : Initialiser) → fine.Fine number [] Any (rules.initial_words line ty x i)
   words_fine line ty extents.Scalar (initialisers.Value e) =
-      fine.and number [] (constant_word_fine number [] {Q = λ w. Unit {0}} e (λ w. tt)) (λ w. fine.gives number [] (record { 0 = convert ty w } ∷ []) (λ a. tt))
+      fine.and number [] (constant_word_fine number [] {Q = λ w. Unit {0}} e (λ w. tt))
+      (λ w. fine.gives number [] (record { 0 = convert ty w } ∷ []) (λ a. tt))
   words_fine line ty extents.Scalar (initialisers.List l es) = fine.breaks number [] _ _
   words_fine line ty (extents.Array n) (initialisers.Value e) = fine.breaks number [] _ _
   words_fine line ty (extents.Array n) (initialisers.List l es) = words_more_fine line ty (unwrap_or n 0) es
@@ -314,7 +317,8 @@ module _ (number : ℕ) where
 -- ## The rules
 
 module _ (number : ℕ) (has : ℕ → Type 0) (fs : List Function) where
-  module _ (x : Identifier) (storage : Option Storage) (ty : Ty) (fixed : Bool) (said : Extent) (h : Here) (hold : Holding number has fs h) (l : Linked) (g : Here) where
+  module _ (x : Identifier) (storage : Option Storage) (ty : Ty) (fixed : Bool) (said : Extent) (h : Here) (hold : Holding number has fs h)
+      (l : Linked) (g : Here) where
     abbrev known : Extent
     known = extent_or said (bound_here x.name h)
 
@@ -353,7 +357,8 @@ module _ (number : ℕ) (has : ℕ → Type 0) (fs : List Function) where
           ((if b then change (λ (s : Here). record s { awaited = s.awaited ++ waiting ∷ [] }) else give tt) bound)
       none_ends true is declared = (
         holding_behind number has fs x.name standing ty fixed said h hold good l g k (g.awaited ++ waiting ∷ [])
-            (λ t f s there st given. awaited_last g.awaited waiting _ l.pid (name_lacks number has fs x.name standing ty fixed said h hold good l g k t f there))
+            (λ t f s there st given. awaited_last g.awaited waiting _ l.pid
+            (name_lacks number has fs x.name standing ty fixed said h hold good l g k t f there))
             (λ p w. awaited_more g.awaited waiting _ p
             (subst (λ a. IsAwaited a (file_behind number has fs x.name standing ty fixed said h hold good l g k) p) (sym k.awaited) w)),
         entering_grows k.entering,

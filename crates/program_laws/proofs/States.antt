@@ -25,7 +25,8 @@ IsObjectAt syms pid ty fixed extent = (e : Entity) × (entity_at syms pid ≡ So
 
 -- an object's binding goes with the table, in the module with this number
 abbrev pub IsCoherent : ℕ → Table → List ℕ → Binding → Type 0
-IsCoherent number syms name (bindings.Object pid internal ty fixed extent) = IsNamed syms (program_name number internal name) pid × IsObjectAt syms pid ty fixed extent
+IsCoherent number syms name (bindings.Object pid internal ty fixed extent) = IsNamed syms (program_name number internal name) pid
+    × IsObjectAt syms pid ty fixed extent
 IsCoherent number syms name (bindings.Parameter place ty fixed) = ⊤
 IsCoherent number syms name (bindings.Local place ty fixed extent) = ⊤
 IsCoherent number syms name (bindings.Constant w) = ⊤

@@ -131,7 +131,14 @@ others_put k (e ∷ es) name v ne ok = by_test (same_name name e.0) (others_put 
     by_test false more = (ok.0, more)
 
 pub is_put : (syms : Table) (name : List ℕ) (v : Symbol) → IsPut syms name v (place syms name) (put name v syms)
-is_put [] name v = record { here = refl; others = none_there v name; known = refl; named = reflexive name; names = λ other pid h. absurd h; once = λ h. (tt, tt) }
+is_put [] name v = record {
+  here = refl;
+  others = none_there v name;
+  known = refl;
+  named = reflexive name;
+  names = λ other pid h. absurd h;
+  once = λ h. (tt, tt);
+}
 is_put (e ∷ es) name v = by_test (same_name name e.0) refl (is_put es name v)
   where
     by_test : (b : Bool) → same_name name e.0 ≡ b → IsPut es name v (place es name) (put name v es)
@@ -166,7 +173,8 @@ pid_is syms name pid h =
 pub named_by : (syms : Table) (name : List ℕ) (pid : ℕ) → pid_of syms name ≡ Some pid → IsNamed syms name pid
 named_by syms name pid h = by_test (nat_lt (number_of syms name) (length (keys_of syms))) refl h
   where
-    by_test : (b : Bool) → nat_lt (number_of syms name) (length (keys_of syms)) ≡ b → cond b (Some (number_of syms name)) None ≡ Some pid → IsNamed syms name pid
+    by_test : (b : Bool) → nat_lt (number_of syms name) (length (keys_of syms)) ≡ b → cond b (Some (number_of syms name)) None ≡ Some pid
+        → IsNamed syms name pid
     by_test true less is =
         subst (IsNamed syms name) (let c : number_of syms name ≡ pid = cc in c)
         (by_number syms name (ltb-true (number_of syms name) (length (keys_of syms)) less))
@@ -224,7 +232,8 @@ types_same : (ps qs : List Ty) → pointwise same_type ps qs ≡ true → ps ≡
 types_same [] [] h = refl
 types_same [] (q ∷ qs) h = absurd (false≢true h)
 types_same (p ∷ ps) [] h = absurd (false≢true h)
-types_same (p ∷ ps) (q ∷ qs) h = let both = and_both (same_type p q) (pointwise same_type ps qs) h in ap₂ (λ x xs. x ∷ xs) (same_type_is p q both.0) (types_same ps qs both.1)
+types_same (p ∷ ps) (q ∷ qs) h = let both = and_both (same_type p q) (pointwise same_type ps qs) h in ap₂ (λ x xs. x ∷ xs) (same_type_is p q both.0)
+    (types_same ps qs both.1)
 
 pub said_more : (known said : Entity) → compatible known said ≡ true → IsMore said (composite known said)
 said_more (Function r ps) (Function s qs) h = functions_same r s ps qs h
@@ -293,12 +302,14 @@ abbrev pub Accepts : Option Symbol → Standing → Entity → Type 0
 Accepts None standing said = ⊤
 Accepts (Some s) standing said = (compatible s.entity said ≡ true) × (repeats (Some s) standing ≡ false)
 
-accepted : (known : Option Symbol) (standing : Standing) (said : Entity) (after : Table) → refusal_of known standing said after ≡ None → Accepts known standing said
+accepted : (known : Option Symbol) (standing : Standing) (said : Entity) (after : Table) → refusal_of known standing said after ≡ None
+    → Accepts known standing said
 accepted None standing said after h = tt
 accepted (Some s) standing said after h = by_tests (compatible s.entity said) (repeats (Some s) standing) refl refl h
   where
     by_tests : (b r : Bool) → compatible s.entity said ≡ b → repeats (Some s) standing ≡ r
-        → (if (if b then false else true) then Some TypeClash else (if r then Some Duplicate else (if is_past_limits after then Some TooMany else None))) ≡ None
+        → (if (if b then false else true) then Some TypeClash else
+        (if r then Some Duplicate else (if is_past_limits after then Some TooMany else None))) ≡ None
         → (compatible s.entity said ≡ true) × (repeats (Some s) standing ≡ false)
     by_tests false r eb er e = absurd (let c : Some TypeClash ≡ None = e in cc)
     by_tests true true eb er e = absurd (let c : Some Duplicate ≡ None = e in cc)
@@ -325,7 +336,8 @@ within_limits known standing said after h = by_tests (clashes known said) (repea
     by_tests false false true e = absurd (let c : Some TooMany ≡ None = e in cc)
     by_tests false false false e = refl
 
-all_put : (P : Symbol → Type 0) (syms : Table) (name : List ℕ) (v : Symbol) → AllByRecursion P (values_of syms) → P v → AllByRecursion P (values_of (put name v syms))
+all_put : (P : Symbol → Type 0) (syms : Table) (name : List ℕ) (v : Symbol) → AllByRecursion P (values_of syms) → P v
+    → AllByRecursion P (values_of (put name v syms))
 all_put P [] name v ok good = (good, tt)
 all_put P (e ∷ es) name v ok good = by_test (same_name name e.0) (all_put P es name v ok.1 good)
   where

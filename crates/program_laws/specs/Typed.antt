@@ -10,7 +10,8 @@ use Rattle.c_types.specs.Typing.{module_rules, start}
 -- the program from the first table to the second
 abbrev pub AreTyped : ℕ → Table → List Module → Table → Type 0
 AreTyped number old [] new = new ≡ old
-AreTyped number old (m ∷ modules) new = (t : TypedModule) × (h : Here) × (module_rules number m (start old) ≡ Gives t h) × AreTyped (suc number) h.syms modules new
+AreTyped number old (m ∷ modules) new = (t : TypedModule) × (h : Here) × (module_rules number m (start old) ≡ Gives t h)
+    × AreTyped (suc number) h.syms modules new
 
 -- the same with what the rules give for each module
 abbrev pub AreTypedAs : ℕ → Table → List Module → List TypedModule → Table → Type 0
