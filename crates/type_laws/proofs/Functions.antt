@@ -237,7 +237,7 @@ named_parameters_keep s o (ty ∷ types) (p ∷ ps) =
     and (named_parameters_keep s o types ps) (λ xs is. gives (x ∷ xs) (λ le. ap suc (is (omega (arith, le))))))
 
 -- the block of a definition, in the scope of its parameters
-abbrev bodied : ℕ → Option Ty → List TypedParameter → Aside → Block → Rule TypedFunction
+abbrev pub bodied : ℕ → Option Ty → List TypedParameter → Aside → Block → Rule TypedFunction
 bodied pid result params names b = do
   change (resume names)
   change (λ h. record h { locals = [] })
@@ -248,7 +248,7 @@ bodied pid result params names b = do
   give (record { pid = pid; result = result; params = params; locals = locals; body = roll-TypedStmt (TypedStmt-F.Block body) })
 
 -- what stands behind the types of the parameters
-abbrev fronted : ℕ → Function → Specified → List Ty → Aside → Rule TypedFunction
+abbrev pub fronted : ℕ → Function → Specified → List Ty → Aside → Rule TypedFunction
 fronted number f sp types names = do
   unless (not (is_library f.name.name)) f.name.line kinds.Library
   l ← link number f.name sp.storage true standings.Defined (entities.Function sp.ty types)

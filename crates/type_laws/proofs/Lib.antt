@@ -1,8 +1,8 @@
 mod Expressions
 mod FileScope
-mod Functions
+pub mod Functions
 mod Going
 mod Keeping
-mod Modules
+pub mod Modules
 mod Statements
 mod Typings

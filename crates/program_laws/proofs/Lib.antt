@@ -1,0 +1,14 @@
+mod Declarations
+mod Definitions
+mod Expressions
+mod Files
+mod Fine
+mod Holding
+mod Linked
+mod Links
+mod Modules
+mod Objects
+mod Statements
+mod States
+mod Tables
+mod Typings
