@@ -1,0 +1,194 @@
+//! The writer of a routine's draft.
+ghost use Rattle.std.specs.Prelude.{◌≡◌, suc, IfOk, OnOk};
+ghost use Rattle.lower_laws.specs.Code.{past_reg, past_instr, past_end, past_site, past_new, past_label};
+ghost use Rattle.c_lower.specs.Drafts as drafts;
+ghost use Rattle.c_lower.specs.Expressions as specs;
+
+use crate::fault::LowerFault;
+use hlo_num::Seq;
+use il_core::{Block, End, Instr};
+use std::alloc::Global;
+use std::marker::Model;
+
+/// The code of a function that is written so far. The ends of its blocks name labels where a routine names
+/// blocks: a label is a place of `targets`, which says its block.
+#[derive(Drop)]
+pub(crate) struct Writer {
+    /// The blocks that are finished, and the instructions of the one that is open.
+    done: Vec<Block>,
+    here: Vec<Instr>,
+    /// The block of each label. It is 0 until the label's place is reached.
+    targets: Vec<u32>,
+    /// The register of each local that is declared so far.
+    locals: Vec<u32>,
+    /// The next register, the block that is open or begins next, the next call site, and how many
+    /// instructions and ends there are.
+    reg: u32,
+    block: u32,
+    site: u32,
+    size: u32,
+}
+
+impl Model for Writer {
+    ghost use Rattle.c_lower.specs.Drafts.{Writing};
+
+    ghost Value = { Writing };
+
+    ghost view = { λ w. record { numbers = record { reg = w.reg; block = w.block; site = w.site; size = w.size }; draft = record { done = w.done.items; here = w.here.items; targets = w.targets.items; locals = w.locals.items } } };
+}
+
+/// The next number. Numbers past 32 bits don't fit any memory.
+fn after(n: u32) -> Result<u32, LowerFault>
+    ensures { IfOk result (λ m. m ≡ suc n) }
+{
+    match n.checked_add(1) {
+        Some(next) => Ok(next),
+        None => Err(LowerFault::Memory),
+    }
+}
+
+/// The place behind a list of this length.
+fn place(len: usize) -> Result<u32, LowerFault>
+    ensures { IfOk result (λ n. n ≡ len) }
+{
+    if len > u32::MAX as usize {
+        return Err(LowerFault::Memory);
+    }
+    Ok(len as u32)
+}
+
+impl Writer {
+    /// The next register.
+    pub(crate) fn reg(&self) -> u32
+        ensures { result ≡ self.now.numbers.reg }
+    {
+        self.reg
+    }
+
+    /// The block that is open, or begins next.
+    pub(crate) fn block(&self) -> u32
+        ensures { result ≡ self.now.numbers.block }
+    {
+        self.block
+    }
+
+    /// The next call site.
+    pub(crate) fn site(&self) -> u32
+        ensures { result ≡ self.now.numbers.site }
+    {
+        self.site
+    }
+
+    /// A new register.
+    pub(crate) fn new_register(&mut self) -> Result<u32, LowerFault>
+        ensures register { IfOk result (λ r. r ≡ self.old.numbers.reg) }
+        ensures numbers { OnOk result (self.new.numbers ≡ past_reg self.old.numbers) }
+        ensures draft { self.new.draft ≡ self.old.draft }
+    {
+        let register = self.reg;
+        self.reg = after(register)?;
+        Ok(register)
+    }
+
+    /// A new call site.
+    pub(crate) fn count_site(&mut self) -> Result<(), LowerFault>
+        ensures numbers { OnOk result (self.new.numbers ≡ past_site self.old.numbers) }
+        ensures draft { self.new.draft ≡ self.old.draft }
+    {
+        self.site = after(self.site)?;
+        Ok(())
+    }
+
+    /// An instruction.
+    #[tactic(auto, unfolding(crate::specs::Drafts::write))]
+    pub(crate) fn put(&mut self, instr: Instr) -> Result<(), LowerFault>
+        ensures numbers { OnOk result (self.new.numbers ≡ past_instr self.old.numbers) }
+        ensures draft { OnOk result (self.new.draft ≡ drafts.write instr self.old.draft) }
+    {
+        self.size = after(self.size)?;
+        self.here.push(instr)?;
+        Ok(())
+    }
+
+    /// An instruction that gives the next register its word.
+    pub(crate) fn put_new(&mut self, instr: Instr) -> Result<(), LowerFault>
+        ensures numbers { OnOk result (self.new.numbers ≡ past_new self.old.numbers) }
+        ensures draft { OnOk result (self.new.draft ≡ drafts.write instr self.old.draft) }
+    {
+        self.new_register()?;
+        self.put(instr)
+    }
+
+    /// The end of the block that is open.
+    #[tactic(auto, unfolding(crate::specs::Drafts::finish))]
+    pub(crate) fn finish(&mut self, end: End) -> Result<(), LowerFault>
+        ensures numbers { OnOk result (self.new.numbers ≡ past_end self.old.numbers) }
+        ensures draft { OnOk result (self.new.draft ≡ drafts.finish end self.old.draft) }
+    {
+        self.size = after(self.size)?;
+        self.block = after(self.block)?;
+        let empty = Vec::new(*self.done.allocator());
+        let instrs = std::mem::replace(&mut self.here, empty);
+        let block = Block {
+            instrs: Seq::from_vec(instrs),
+            end,
+        };
+        self.done.push(block)?;
+        Ok(())
+    }
+
+    /// A label at a block that is known, or, with 0, one whose place is reached later.
+    #[tactic(auto, unfolding(crate::specs::Drafts::mark, crate::specs::Drafts::next_label))]
+    pub(crate) fn mark(&mut self, block: u32) -> Result<u32, LowerFault>
+        ensures label { IfOk result (λ l. l ≡ drafts.next_label self.old.draft) }
+        ensures numbers { self.new.numbers ≡ self.old.numbers }
+        ensures draft { OnOk result (self.new.draft ≡ drafts.mark block self.old.draft) }
+    {
+        let label = place(self.targets.len())?;
+        self.targets.push(block)?;
+        Ok(label)
+    }
+
+    /// The place of a label is reached.
+    #[tactic(auto, unfolding(crate::specs::Drafts::reach))]
+    pub(crate) fn reach(&mut self, label: u32)
+        ensures numbers { self.new.numbers ≡ self.old.numbers }
+        ensures draft { self.new.draft ≡ drafts.reach label self.old.numbers.block self.old.draft }
+    {
+        let block = self.block;
+        if let Some(target) = self.targets.get_mut(label as usize) {
+            *target = block;
+        }
+    }
+
+    /// The next local has a register.
+    #[tactic(auto, unfolding(crate::specs::Drafts::declare))]
+    pub(crate) fn declare(&mut self, register: u32) -> Result<(), LowerFault>
+        ensures numbers { self.new.numbers ≡ self.old.numbers }
+        ensures draft { OnOk result (self.new.draft ≡ drafts.declare register self.old.draft) }
+    {
+        self.locals.push(register)?;
+        Ok(())
+    }
+
+    /// The next block, begun by a jump to it where a block is open.
+    pub(crate) fn begin_block(&mut self, opened: bool) -> Result<(), LowerFault>
+        ensures numbers { OnOk result (self.new.numbers ≡ past_label opened self.old.numbers) }
+        ensures draft { OnOk result (self.new.draft ≡ drafts.begin_block opened self.old.numbers self.old.draft) }
+    {
+        if !opened {
+            return Ok(());
+        }
+        let next = self.mark(after(self.block)?)?;
+        self.finish(End::Jump(next))
+    }
+
+    /// Goes on in the next block where a register isn't 0, and else at a label.
+    pub(crate) fn branch(&mut self, register: u32, label: u32) -> Result<(), LowerFault>
+        ensures numbers { OnOk result (self.new.numbers ≡ past_end self.old.numbers) }
+        ensures draft { OnOk result (self.new.draft ≡ drafts.branch register label self.old.numbers self.old.draft) }
+    {
+        let next = self.mark(after(self.block)?)?;
+        self.finish(End::Branch(register, next, label))
+    }
+}
