@@ -1,6 +1,7 @@
 -- The drafts of expressions, with the numbers before them.
 use Rattle.std.specs.Prelude.{ℕ, suc, Bool, true, false, Option, Some, None, if◌then◌else◌}
 use Rattle.hlo_num.specs.declared.word.Ty.{Ty}
+use Rattle.hlo_num.specs.declared.word.Word.{Word}
 use Rattle.hlo_num.specs.declared.word.Op.TheVariants as op
 use Rattle.hlo_num.specs.Words.{is_narrow, promote}
 use Rattle.il_core.specs.declared.instr.Instr.TheVariants as instr
@@ -17,9 +18,15 @@ use Rattle.c_typed.specs.Expressions.{Spot}
 use Rattle.c_typed.specs.Trees as tree
 use Rattle.c_typed.specs.Trees.{Place, Expr, Arguments}
 use Rattle.lower_laws.specs.Code.{Numbers, past_reg, past_instr, past_end, past_new, past_label, word}
-use Rattle.lower_laws.specs.Operations.{load, store, conv_past, conv_result, operation, unary_result, update_result}
+use Rattle.lower_laws.specs.Operations.{load, store, conv_past, conv_result, operation, update_past, update_result}
 use Rattle.lower_laws.specs.Expressions.{result_past, result_register, arm_past, arm_open, logical_end, skipped, past, place_past, arguments_past, result, spot_at, results}
 use Rattle.c_lower.specs.Drafts.{Draft, Fixed, write, finish, next_label, mark, reach, layout_now, begin_block, branch}
+
+abbrev pub constant : Word → Numbers → Draft → Draft
+constant w n s = write (instr.Const n.reg w) s
+
+abbrev pub operated : BinaryOp → Ty → ℕ → ℕ → Numbers → Draft → Draft
+operated o t x y n s = write (operation o t n.reg x y) s
 
 abbrev pub converted : Ty → ℕ → Numbers → Draft → Draft
 converted t x n s = if is_narrow t then write (instr.Conv n.reg t x) s else s
@@ -68,6 +75,12 @@ stepped y t o p n s =
     let one = conv_past (promote t) loaded in
     updated y t o (promote t) p (conv_result (promote t) n.reg loaded) one.reg (past_new one)
     (write (instr.Const one.reg (word 1)) (fetched y (promote t) p n s))
+
+abbrev pub stepped_past : Ty → Numbers → Numbers
+stepped_past t n = update_past t (past_new (conv_past (promote t) (past_new n)))
+
+abbrev pub stepped_result : Ty → Numbers → ℕ
+stepped_result t n = update_result t (past_new (conv_past (promote t) (past_new n)))
 
 abbrev mutual
   pub written : Fixed → Expr → Numbers → Draft → Draft

@@ -2,6 +2,8 @@
 #![tactic(auto)]
 
 mod fault;
+mod operations;
+mod setting;
 mod writer;
 
 pub use fault::LowerFault;

@@ -1,5 +1,5 @@
 //! The writer of a routine's draft.
-ghost use Rattle.std.specs.Prelude.{◌≡◌, suc, IfOk, OnOk};
+ghost use Rattle.std.specs.Prelude.{◌≡◌, suc, [], slice_index, IfOk, OnOk};
 ghost use Rattle.lower_laws.specs.Code.{past_reg, past_instr, past_end, past_site, past_new, past_label};
 ghost use Rattle.c_lower.specs.Drafts as drafts;
 ghost use Rattle.c_lower.specs.Expressions as specs;
@@ -7,7 +7,6 @@ ghost use Rattle.c_lower.specs.Expressions as specs;
 use crate::fault::LowerFault;
 use hlo_num::Seq;
 use il_core::{Block, End, Instr};
-use std::alloc::Global;
 use std::marker::Model;
 
 /// The code of a function that is written so far. The ends of its blocks name labels where a routine names
@@ -77,6 +76,23 @@ impl Writer {
         ensures { result ≡ self.now.numbers.site }
     {
         self.site
+    }
+
+    /// The register of a local that is declared, and 0 for one that isn't.
+    pub(crate) fn local(&self, x: u32) -> u32
+        ensures { result ≡ slice_index self.now.draft.locals x }
+    {
+        match self.locals.get(x as usize) {
+            Some(register) => *register,
+            None => 0,
+        }
+    }
+
+    /// An empty list of registers.
+    pub(crate) fn no_registers(&self) -> Vec<u32>
+        ensures { result.items ≡ [] }
+    {
+        Vec::new(*self.done.allocator())
     }
 
     /// A new register.
