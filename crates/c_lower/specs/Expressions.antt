@@ -1,5 +1,5 @@
 -- The drafts of expressions, with the numbers before them.
-use Rattle.std.specs.Prelude.{ℕ, suc, Bool, true, false, Option, Some, None, if◌then◌else◌}
+use Rattle.std.specs.Prelude.{ℕ, suc, List, Bool, true, false, Option, Some, None, if◌then◌else◌}
 use Rattle.hlo_num.specs.declared.word.Ty.{Ty}
 use Rattle.hlo_num.specs.declared.word.Word.{Word}
 use Rattle.hlo_num.specs.declared.word.Op.TheVariants as op
@@ -82,6 +82,22 @@ stepped_past t n = update_past t (past_new (conv_past (promote t) (past_new n)))
 abbrev pub stepped_result : Ty → Numbers → ℕ
 stepped_result t n = update_result t (past_new (conv_past (promote t) (past_new n)))
 
+-- to the first arm of `?:` in the next block, or to the other at label l
+abbrev pub chosen : Option Ty → ℕ → ℕ → Numbers → Draft → Draft
+chosen t x l n s = branch x l (result_past t n) s
+
+-- the end of the first arm, and of the last one
+abbrev pub first_arm : Option Ty → ℕ → ℕ → ℕ → ℕ → Numbers → Draft → Draft
+first_arm t d x behind other n s = reach other (past_end (arm_past t n)).block (finish (ends.Jump behind) (arm t d x s))
+
+abbrev pub last_arm : Option Ty → ℕ → ℕ → ℕ → Bool → Numbers → Draft → Draft
+last_arm t d x behind opened n s =
+    let last = arm_past t n in
+    reach behind (past_label opened last).block (begin_block opened last (arm t d x s))
+
+abbrev pub called : Fixed → Option Ty → ℕ → List ℕ → Numbers → Draft → Draft
+called y t f args n s = write (instr.Call (result_register t n.reg) f (y.count n.site) args) s
+
 abbrev mutual
   pub written : Fixed → Expr → Numbers → Draft → Draft
   written y (tree.Constant t v) n s = write (instr.Const n.reg (word v)) s
@@ -101,16 +117,14 @@ abbrev mutual
       (written y b right (asked o (result a n) skip left (mark 0 first)))
   written y (tree.Conditional t c a b) n s =
       let asked = past c n in
-      let chosen = result_past t asked in
-      let first = past_end chosen in
+      let first = past_end (result_past t asked) in
       let second = past_end (arm_past t (past a first)) in
-      let last = arm_past t (past b second) in
       let tested = written y c n s in
       let behind = next_label tested in
       let other = next_label (mark 0 tested) in
-      let yes = arm t asked.reg (result a first) (written y a first (branch (result c n) other chosen (mark 0 (mark 0 tested)))) in
-      let no = arm t asked.reg (result b second) (written y b second (reach other second.block (finish (ends.Jump behind) yes))) in
-      reach behind (past_label (arm_open t b) last).block (begin_block (arm_open t b) last no)
+      let yes = written y a first (chosen t (result c n) other asked (mark 0 (mark 0 tested))) in
+      let no = written y b second (first_arm t asked.reg (result a first) behind other (past a first) yes) in
+      last_arm t asked.reg (result b second) behind (arm_open t b) (past b second) no
   written y (tree.Comma t a b) n s = written y b (past a n) (written y a n s)
   written y (tree.Assign t p e) n s =
       let right = place_past p n in
@@ -124,8 +138,7 @@ abbrev mutual
   written y (tree.Prefix t d p) n s = stepped y t (step_op d) (spot_at p n) (place_past p n) (placed y p n s)
   written y (tree.Postfix t d p) n s = stepped y t (step_op d) (spot_at p n) (place_past p n) (placed y p n s)
   written y (tree.Call t f es) n s =
-      let behind = arguments_past es n in
-      write (instr.Call (result_register t behind.reg) f (y.count behind.site) (results es n)) (arguments y es n s)
+      called y t f (results es n) (arguments_past es n) (arguments y es n s)
   written y tree.GetChar n s = write (instr.GetChar n.reg) s
   written y (tree.PutChar e) n s = write (instr.PutChar (past e n).reg (result e n)) (written y e n s)
   written y (tree.Exit e) n s = finish (ends.Exit (result e n)) (written y e n s)

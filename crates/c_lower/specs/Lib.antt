@@ -1,3 +1,5 @@
 pub mod Drafts
 pub mod Expressions
 pub mod Settings
+pub mod Settled
+pub mod Statements

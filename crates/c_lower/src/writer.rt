@@ -37,7 +37,7 @@ impl Model for Writer {
 }
 
 /// The next number. Numbers past 32 bits don't fit any memory.
-fn after(n: u32) -> Result<u32, LowerFault>
+pub(crate) fn after(n: u32) -> Result<u32, LowerFault>
     ensures { IfOk result (λ m. m ≡ suc n) }
 {
     match n.checked_add(1) {
@@ -151,6 +151,14 @@ impl Writer {
         };
         self.done.push(block)?;
         Ok(())
+    }
+
+    /// The label that comes next.
+    #[tactic(auto, unfolding(crate::specs::Drafts::next_label))]
+    pub(crate) fn next_label(&self) -> Result<u32, LowerFault>
+        ensures { IfOk result (λ l. l ≡ drafts.next_label self.now.draft) }
+    {
+        place(self.targets.len())
     }
 
     /// A label at a block that is known, or, with 0, one whose place is reached later.
