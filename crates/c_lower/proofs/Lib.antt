@@ -1,2 +1,4 @@
 pub mod Emits
 pub mod EmitsExpressions
+pub mod EmitsStatements
+pub mod EmitsSwitches

@@ -3,3 +3,4 @@ pub mod Expressions
 pub mod Settings
 pub mod Settled
 pub mod Statements
+pub mod Lowering

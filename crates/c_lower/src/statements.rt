@@ -168,7 +168,7 @@ impl Writer {
         ensures draft { OnOk result (self.new.draft ≡ specs.stated (fixed_of c.now) exits.breaks exits.continues (stmt_of s.now) opened self.old.numbers self.old.draft) }
     {
         match s {
-            TypedStmt::Block(items) => self.block(items.as_slice(), opened, exits, c),
+            TypedStmt::Block(items) => self.sequence(items.as_slice(), opened, exits, c),
             TypedStmt::Declaration { local, initialiser } => {
                 self.initialise(initialiser, *local, opened, c)
             }
@@ -284,7 +284,7 @@ impl Writer {
 
     /// Statements in sequence.
     #[cycle(statements)]
-    fn block(
+    fn sequence(
         &mut self,
         ss: &[TypedStmt],
         opened: bool,

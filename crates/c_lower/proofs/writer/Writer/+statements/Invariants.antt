@@ -5,8 +5,8 @@ use Rattle.c_lower.specs.Settings.{fixed_of}
 use Rattle.c_lower.specs.Statements as specs
 use Rattle.c_lower.proofs.writer.Writer.+statements.Given as goal
 
-abbrev pub invariant-block-loop-s : goal.invariant-block-loop-s
-invariant-block-loop-s l =
+abbrev pub invariant-sequence-loop-s : goal.invariant-sequence-loop-s
+invariant-sequence-loop-s l =
     let left = sequence_from (map stmt_of (drop l.s-index l.ss)) in
     let all = sequence_from (map stmt_of l.ss) in
     let y = fixed_of l.c in
