@@ -54,21 +54,22 @@ pub grown_one : (a : List ℕ) (x : ℕ) → Grown a (a ++ x ∷ [])
 grown_one a x = record { more = omega (arith, length-append a (x ∷ [])); keeps = λ l h. get_front a x [] l h }
 
 -- one piece after another
-pub one_then : {f r : ℕ → ℕ} {d e : List ℕ → List ℕ} {c k : Code → Code} {s s1 s2 : Draft} → Emits f r d c s s1 → Emits f r e k s1 s2 → Emits f r (λ l. d (e l)) (λ l. c (k l)) s s2
+pub one_then : {f r : ℕ → ℕ} {d e : List ℕ → List ℕ} {c k : Code → Code} {s s1 s2 : Draft} → Emits f r d c s s1 → Emits f r e k s1 s2 →
+    Emits f r (λ l. d (e l)) (λ l. c (k l)) s s2
 one_then {f = f} {r = r} {d = d} {e = e} {c = c} {k = k} {s = s} {s1 = s1} {s2 = s2} p q = record {
   targets = grown_then p.targets q.targets;
   locals = grown_then p.locals q.locals;
   declares = λ l. q.declares l ∙ p.declares (e l);
   code = λ g l.
-    let g1 : Agrees f r s s1 = record {
-      labels = λ a h i. let j : a < length s2.targets = omega (arith, q.targets.more) in g.labels a h j ∙ q.targets.keeps a i;
-      locals = λ x h. let j : x < length s2.locals = omega (arith, q.locals.more) in g.locals x j ∙ q.locals.keeps x h;
-    } in
-    let g2 : Agrees f r s1 s2 = record {
-      labels = λ a h i. let j : length s.targets ≤ a = omega (arith, p.targets.more) in g.labels a j i;
-      locals = λ x h. g.locals x h;
-    } in
-    q.code g2 l ∙ p.code g1 (k l);
+      let g1 : Agrees f r s s1 = record {
+        labels = λ a h i. let j : a < length s2.targets = omega (arith, q.targets.more) in g.labels a h j ∙ q.targets.keeps a i;
+        locals = λ x h. let j : x < length s2.locals = omega (arith, q.locals.more) in g.locals x j ∙ q.locals.keeps x h;
+      } in
+      let g2 : Agrees f r s1 s2 = record {
+        labels = λ a h i. let j : length s.targets ≤ a = omega (arith, p.targets.more) in g.labels a j i;
+        locals = λ x h. g.locals x h;
+      } in
+      q.code g2 l ∙ p.code g1 (k l);
 }
 
 pub none : {f r : ℕ → ℕ} (s : Draft) → Emits f r (λ l. l) (λ k. k) s s
@@ -81,7 +82,8 @@ puts {f = f} i s = record {
   targets = grown_none s.targets;
   locals = grown_none s.locals;
   declares = λ k. refl;
-  code = λ g k. ap (λ (h : List Instr). map (settled f) s.done ++ record { instrs = h; end = k.here.end } ∷ k.later) (append_assoc s.here (i ∷ []) k.here.instrs);
+  code = λ g k. ap (λ (h : List Instr). map (settled f) s.done ++ record { instrs = h; end = k.here.end } ∷ k.later)
+      (append_assoc s.here (i ∷ []) k.here.instrs);
 }
 
 map_last : (f : ℕ → ℕ) (a : List Block) (x : Block) (k : List Block) → map (settled f) (a ++ x ∷ []) ++ k ≡ map (settled f) a ++ settled f x ∷ k
@@ -94,7 +96,10 @@ closes {f = f} e s = record {
   targets = grown_none s.targets;
   locals = grown_none s.locals;
   declares = λ k. refl;
-  code = λ g k. map_last f s.done _ _ ∙ ap (λ (h : List Instr). map (settled f) s.done ++ record { instrs = h; end = settle f e } ∷ record { instrs = k.here.instrs; end = k.here.end } ∷ k.later) (sym (append-nil s.here));
+  code = λ g k. map_last f s.done _ _
+      ∙ ap (λ (h : List Instr). map
+      (settled f) s.done ++ record { instrs = h; end = settle f e } ∷ record { instrs = k.here.instrs; end = k.here.end } ∷ k.later)
+      (sym (append-nil s.here));
 }
 
 -- a label alone adds no code
@@ -103,7 +108,8 @@ unfolding mark
 marks b s = record { targets = grown_one s.targets b; locals = grown_none s.locals; declares = λ k. refl; code = λ g k. refl }
 
 -- code that names a new label whose block is known
-pub known : {f r : ℕ → ℕ} {d : List ℕ → List ℕ} {s s1 : Draft} (b : ℕ) (c : ℕ → Code → Code) → Emits f r d (c (f (next_label s))) (mark b s) s1 → Emits f r d (c b) s s1
+pub known : {f r : ℕ → ℕ} {d : List ℕ → List ℕ} {s s1 : Draft} (b : ℕ) (c : ℕ → Code → Code) → Emits f r d (c (f (next_label s))) (mark b s) s1 →
+    Emits f r d (c b) s s1
 unfolding mark next_label
 known {f = f} {r = r} {d = d} {s = s} {s1 = s1} b c p =
     let grown = grown_one s.targets b in
@@ -114,17 +120,19 @@ known {f = f} {r = r} {d = d} {s = s} {s1 = s1} b c p =
       locals = p.locals;
       declares = p.declares;
       code = λ g k.
-        let there : length s.targets ≤ length s.targets = omega arith in
-        let is : f (length s.targets) ≡ b = g.labels (length s.targets) there (omega (arith, more)) ∙ p.targets.keeps (length s.targets) new ∙ get_last s.targets b in
-        let g1 : Agrees f r (mark b s) s1 = record {
-          labels = λ a h i. let j : length s.targets ≤ a = omega (arith, h, length-append s.targets (b ∷ [])) in g.labels a j i;
-          locals = g.locals;
-        } in
-        p.code g1 k ∙ ap (λ v. joined f s (c v k)) is;
+          let there : length s.targets ≤ length s.targets = omega arith in
+          let is : f (length s.targets) ≡ b = g.labels (length s.targets) there (omega (arith, more)) ∙ p.targets.keeps (length s.targets) new
+          ∙ get_last s.targets b in
+          let g1 : Agrees f r (mark b s) s1 = record {
+            labels = λ a h i. let j : length s.targets ≤ a = omega (arith, h, length-append s.targets (b ∷ [])) in g.labels a j i;
+            locals = g.locals;
+          } in
+          p.code g1 k ∙ ap (λ v. joined f s (c v k)) is;
     }
 
 -- code that names a new label whose place is reached behind it, at block b
-pub hole : {f r : ℕ → ℕ} {d : List ℕ → List ℕ} {s s1 : Draft} (b : ℕ) (c : ℕ → Code → Code) → Emits f r d (c (f (next_label s))) (mark 0 s) s1 → Emits f r d (c b) s (reach (next_label s) b s1)
+pub hole : {f r : ℕ → ℕ} {d : List ℕ → List ℕ} {s s1 : Draft} (b : ℕ) (c : ℕ → Code → Code) → Emits f r d (c (f (next_label s))) (mark 0 s) s1 →
+    Emits f r d (c b) s (reach (next_label s) b s1)
 unfolding mark next_label reach
 hole {f = f} {r = r} {d = d} {s = s} {s1 = s1} b c p =
     let n = length s.targets in
@@ -135,23 +143,23 @@ hole {f = f} {r = r} {d = d} {s = s} {s1 = s1} b c p =
       targets = record {
         more = omega (arith, size, more);
         keeps = λ l h.
-          let ne : l ≡ length s.targets → ⊥ = λ e. omega (arith, e, h) in
-          let m : l < length (s.targets ++ 0 ∷ []) = omega (arith, h, length-append s.targets (0 ∷ [])) in
-          get_or-set_other s1.targets n l b 0 ne ∙ p.targets.keeps l m ∙ get_front s.targets 0 [] l h;
+            let ne : l ≡ length s.targets → ⊥ = λ e. omega (arith, e, h) in
+            let m : l < length (s.targets ++ 0 ∷ []) = omega (arith, h, length-append s.targets (0 ∷ [])) in
+            get_or-set_other s1.targets n l b 0 ne ∙ p.targets.keeps l m ∙ get_front s.targets 0 [] l h;
       };
       locals = p.locals;
       declares = p.declares;
       code = λ g k.
-        let there : length s.targets ≤ length s.targets = omega arith in
-        let is : f (length s.targets) ≡ b = g.labels (length s.targets) there (omega (arith, lt, size)) ∙ get_or-set_same s1.targets n b 0 lt in
-        let g1 : Agrees f r (mark 0 s) s1 = record {
-          labels = λ a h i.
-            let j : suc (length s.targets) ≤ a = omega (arith, h, length-append s.targets (0 ∷ [])) in
-            let ne : a ≡ length s.targets → ⊥ = λ e. omega (arith, e, j) in
-            g.labels a (omega (arith, j)) (omega (arith, i, size)) ∙ get_or-set_other s1.targets n a b 0 ne;
-          locals = g.locals;
-        } in
-        p.code g1 k ∙ ap (λ v. joined f s (c v k)) is;
+          let there : length s.targets ≤ length s.targets = omega arith in
+          let is : f (length s.targets) ≡ b = g.labels (length s.targets) there (omega (arith, lt, size)) ∙ get_or-set_same s1.targets n b 0 lt in
+          let g1 : Agrees f r (mark 0 s) s1 = record {
+            labels = λ a h i.
+                let j : suc (length s.targets) ≤ a = omega (arith, h, length-append s.targets (0 ∷ [])) in
+                let ne : a ≡ length s.targets → ⊥ = λ e. omega (arith, e, j) in
+                g.labels a (omega (arith, j)) (omega (arith, i, size)) ∙ get_or-set_other s1.targets n a b 0 ne;
+            locals = g.locals;
+          } in
+          p.code g1 k ∙ ap (λ v. joined f s (c v k)) is;
     }
 
 -- a jump to a block that is known, a block that is begun, and a branch

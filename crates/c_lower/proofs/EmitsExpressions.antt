@@ -27,7 +27,8 @@ use Rattle.c_lower.specs.Expressions.{converted, unary, loaded, stored, fetched,
 use Rattle.c_lower.proofs.Emits.{Agrees, Emits, joined, none, one_then, puts, closes, marks, known, hole, jumps, begins, branches, still}
 
 -- the same code, where f and r are right
-swap : {f r : ℕ → ℕ} {d : List ℕ → List ℕ} {c e : Code → Code} {s s1 : Draft} → Emits f r d c s s1 → (Agrees f r s s1 → (k : Code) → c k ≡ e k) → Emits f r d e s s1
+swap : {f r : ℕ → ℕ} {d : List ℕ → List ℕ} {c e : Code → Code} {s s1 : Draft} → Emits f r d c s s1 → (Agrees f r s s1 → (k : Code) → c k ≡ e k) →
+    Emits f r d e s s1
 swap {f = f} {s = s} p q = record { targets = p.targets; locals = p.locals; declares = p.declares; code = λ g k. p.code g k ∙ ap (λ x. joined f s x) (q g k) }
 
 put_if : {f r : ℕ → ℕ} (b : Bool) (i : Instr) (s : Draft) → Emits f r (λ l. l) (λ k. if b then put i k else k) s (if b then write i s else s)
@@ -51,7 +52,8 @@ IsDeclared m (Whole (variables.Object g)) = Unit {0}
 IsDeclared m (Part a i) = Unit {0}
 
 module _ (f r : ℕ → ℕ) (y : Fixed) where
-  pub loads : (p : Spot) (d m : ℕ) (s : Draft) → m ≤ length s.locals → IsDeclared m p → Emits f r (λ l. l) (put (load (layout_with y r) p d)) s (loaded y p d s)
+  pub loads : (p : Spot) (d m : ℕ) (s : Draft) → m ≤ length s.locals → IsDeclared m p →
+      Emits f r (λ l. l) (put (load (layout_with y r) p d)) s (loaded y p d s)
   unfolding layout_now write
   loads (Whole (variables.Parameter x)) d m s w h = puts (instr.Move d x) s
   loads (Whole (variables.Local x)) d m s w h =
@@ -61,7 +63,8 @@ module _ (f r : ℕ → ℕ) (y : Fixed) where
   loads (Part (arrays.Local a) i) d m s w h = puts (instr.GetA d (y.array a) i) s
   loads (Part (arrays.Object g) i) d m s w h = puts (instr.GetX d g i) s
 
-  pub stores : (p : Spot) (x m : ℕ) (s : Draft) → m ≤ length s.locals → IsDeclared m p → Emits f r (λ l. l) (put (store (layout_with y r) p x)) s (stored y p x s)
+  pub stores : (p : Spot) (x m : ℕ) (s : Draft) → m ≤ length s.locals → IsDeclared m p →
+      Emits f r (λ l. l) (put (store (layout_with y r) p x)) s (stored y p x s)
   unfolding layout_now write
   stores (Whole (variables.Parameter d)) x m s w h = puts (instr.Move d x) s
   stores (Whole (variables.Local d)) x m s w h =
@@ -83,7 +86,9 @@ module _ (f r : ℕ → ℕ) (y : Fixed) where
 
   steps : (t : Ty) (o : BinaryOp) (p : Spot) (n : Numbers) (m : ℕ) (s : Draft) → m ≤ length s.locals → IsDeclared m p →
       Emits f r (λ l. l) (λ k. put (load (layout_with y r) p n.reg) (conv_code (promote t) n.reg (past_new n)
-      (put (instr.Const (conv_past (promote t) (past_new n)).reg (word 1)) (update_code (layout_with y r) t o (promote t) p (conv_result (promote t) n.reg (past_new n)) (conv_past (promote t) (past_new n)).reg (past_new (conv_past (promote t) (past_new n))) k)))) s (stepped y t o p n s)
+      (put (instr.Const (conv_past (promote t) (past_new n)).reg (word 1))
+      (update_code (layout_with y r) t o (promote t) p (conv_result (promote t) n.reg (past_new n)) (conv_past (promote t) (past_new n)).reg
+      (past_new (conv_past (promote t) (past_new n))) k)))) s (stepped y t o p n s)
   steps t o p n m s w h =
       let one = conv_past (promote t) (past_new n) in
       let q = one_then (fetches (promote t) p n m s w h) (puts (instr.Const one.reg (word 1)) _) in
@@ -93,7 +98,8 @@ arms : {f r : ℕ → ℕ} (t : Option Ty) (d x : ℕ) (s : Draft) → Emits f r
 arms None d x s = none s
 arms (Some t) d x s = puts (instr.Move d x) s
 
-asks : {f r : ℕ → ℕ} (o : LogicalOp) (x l : ℕ) (n : Numbers) (s : Draft) → Emits f r (λ k. k) (close (laws.logical_end o x (suc n.block) (f l))) s (asked o x l n s)
+asks : {f r : ℕ → ℕ} (o : LogicalOp) (x l : ℕ) (n : Numbers) (s : Draft) →
+    Emits f r (λ k. k) (close (laws.logical_end o x (suc n.block) (f l))) s (asked o x l n s)
 asks {f = f} logical.And x l n s = known (suc n.block) (λ v k. close (ends.Branch x v (f l)) k) (closes (ends.Branch x (next_label s) l) _)
 asks {f = f} logical.Or x l n s = known (suc n.block) (λ v k. close (ends.Branch x (f l) v) k) (closes (ends.Branch x l (next_label s)) _)
 
@@ -106,7 +112,8 @@ declared_spot sc (tree.Element a e) n h = tt
 
 module _ (f r : ℕ → ℕ) (y : Fixed) (sc : Scope) where
   mutual
-    pub emits_expr : (e : Expr) (n : Numbers) (s : Draft) → sc.locals ≤ length s.locals → IsExpr sc e → Emits f r (λ l. l) (laws.code (layout_with y r) e n) s (written y e n s)
+    pub emits_expr : (e : Expr) (n : Numbers) (s : Draft) → sc.locals ≤ length s.locals → IsExpr sc e →
+        Emits f r (λ l. l) (laws.code (layout_with y r) e n) s (written y e n s)
     emits_expr (tree.Constant t v) n s w h = puts _ s
     emits_expr (tree.Read t p) n s w h =
         let q = emits_place p n s w h in
@@ -130,7 +137,9 @@ module _ (f r : ℕ → ℕ) (y : Fixed) (sc : Scope) where
         let right_side = emits_expr b right _ (still (still (still w p) m) q) h.1.0 in
         let inner = one_then q (one_then right_side (one_then (puts _ _) (one_then (puts _ _) (jumps (suc skip.block) _)))) in
         let held = hole {f = f} {r = r} skip.block (λ v k. close (laws.logical_end o x right.block v)
-            (laws.code (layout_with y r) b right (put (instr.Const zero.reg (word 0)) (put (instr.Bin op.Ne left.reg (laws.result b right) zero.reg) (close (ends.Jump (suc skip.block)) k))))) inner in
+        (laws.code (layout_with y r) b right
+        (put (instr.Const zero.reg (word 0))
+        (put (instr.Bin op.Ne left.reg (laws.result b right) zero.reg) (close (ends.Jump (suc skip.block)) k))))) inner in
         one_then p (one_then held (one_then (puts _ _) (begins true (past_instr skip) _)))
     emits_expr (tree.Conditional t c a b) n s w h =
         let asked = laws.past c n in
@@ -151,12 +160,12 @@ module _ (f r : ℕ → ℕ) (y : Fixed) (sc : Scope) where
         let yes = emits_expr a first _ (still w2 q) h.1.0 in
         let inner = one_then q (one_then yes (one_then (arms t asked.reg (laws.result a first) _) (closes (ends.Jump behind) _))) in
         let held = hole {f = f} {r = r} second.block (λ v k. close (ends.Branch x first.block v)
-            (laws.code (layout_with y r) a first (laws.arm_code t asked.reg (laws.result a first) (close (ends.Jump (f behind)) k)))) inner in
+        (laws.code (layout_with y r) a first (laws.arm_code t asked.reg (laws.result a first) (close (ends.Jump (f behind)) k)))) inner in
         let no = emits_expr b second _ (still (still (still w p) m1) held) h.2.0 in
         let outer = one_then held (one_then no (one_then (arms t asked.reg (laws.result b second) _) (begins (laws.arm_open t b) last _))) in
         one_then p (hole {f = f} {r = r} after.block (λ v k. close (ends.Branch x first.block second.block)
-            (laws.code (layout_with y r) a first (laws.arm_code t asked.reg (laws.result a first) (close (ends.Jump v)
-            (laws.code (layout_with y r) b second (laws.arm_code t asked.reg (laws.result b second) (label (laws.arm_open t b) last k))))))) outer)
+        (laws.code (layout_with y r) a first (laws.arm_code t asked.reg (laws.result a first) (close (ends.Jump v)
+        (laws.code (layout_with y r) b second (laws.arm_code t asked.reg (laws.result b second) (label (laws.arm_open t b) last k))))))) outer)
     emits_expr (tree.Comma t a b) n s w h = let p = emits_expr a n s w h.0 in one_then p (emits_expr b (laws.past a n) _ (still w p) h.1)
     emits_expr (tree.Assign t p e) n s w h =
         let q = emits_place p n s w h.0 in
@@ -180,10 +189,12 @@ module _ (f r : ℕ → ℕ) (y : Fixed) (sc : Scope) where
     emits_expr (tree.PutChar e) n s w h = one_then (emits_expr e n s w h.0) (puts _ _)
     emits_expr (tree.Exit e) n s w h = one_then (emits_expr e n s w h.0) (closes _ _)
 
-    emits_place : (p : Place) (n : Numbers) (s : Draft) → sc.locals ≤ length s.locals → IsPlace sc p → Emits f r (λ l. l) (laws.place_code (layout_with y r) p n) s (placed y p n s)
+    emits_place : (p : Place) (n : Numbers) (s : Draft) → sc.locals ≤ length s.locals → IsPlace sc p →
+        Emits f r (λ l. l) (laws.place_code (layout_with y r) p n) s (placed y p n s)
     emits_place (tree.Scalar x) n s w h = none s
     emits_place (tree.Element a e) n s w h = emits_expr e n s w h.1.0
 
-    emits_arguments : (es : Arguments) (n : Numbers) (s : Draft) → sc.locals ≤ length s.locals → AreArguments sc es → Emits f r (λ l. l) (laws.arguments_code (layout_with y r) es n) s (arguments y es n s)
+    emits_arguments : (es : Arguments) (n : Numbers) (s : Draft) → sc.locals ≤ length s.locals → AreArguments sc es →
+        Emits f r (λ l. l) (laws.arguments_code (layout_with y r) es n) s (arguments y es n s)
     emits_arguments tree.None n s w h = none s
     emits_arguments (tree.Argument e es) n s w h = let p = emits_expr e n s w h.0.0 in one_then p (emits_arguments es (laws.past e n) _ (still w p) h.1)

@@ -81,7 +81,8 @@ turned_more : (l other : ℕ) (m : Numbers) (n : ℕ) (s : Draft) → n ≤ leng
 turned_more l other m n s w = reach_more other _ n _ (finish_more _ n s w)
 
 module _ (f r : ℕ → ℕ) (y : Fixed) where
-  optionals : (e : Option Expr) (sc : Scope) (n : Numbers) (s : Draft) → sc.locals ≤ length s.locals → IsOptional sc e → Emits f r (λ l. l) (laws.optional_code (layout_with y r) e n) s (optional y e n s)
+  optionals : (e : Option Expr) (sc : Scope) (n : Numbers) (s : Draft) → sc.locals ≤ length s.locals → IsOptional sc e →
+      Emits f r (λ l. l) (laws.optional_code (layout_with y r) e n) s (optional y e n s)
   optionals None sc n s w h = none s
   optionals (Some e) sc n s w h = emits_expr f r y sc e n s w h
 
@@ -95,8 +96,10 @@ module _ (f r : ℕ → ℕ) (y : Fixed) where
   returns None sc n s p q opened w h = no_values y.outline.value n s
   returns (Some e) sc n s p q opened w h = one_then (emits_expr f r y sc e n s w h.0) (closes (ends.Return (Some (exprs.result e n))) _)
 
-  declarations : (x : ℕ) (e : Option Expr) (sc : Scope) (n : Numbers) (s : Draft) (p q : End) (opened : Bool) → sc.locals ≤ length s.locals → IsStmt sc (tree.Declaration x e) →
-      Does f r (declarators y.outline (tree.Declaration x e) opened n) (laws.stmt_code (layout_with y r) p q (tree.Declaration x e) opened n) (suc sc.locals) s (declared y x e n s)
+  declarations : (x : ℕ) (e : Option Expr) (sc : Scope) (n : Numbers) (s : Draft) (p q : End) (opened : Bool) → sc.locals ≤ length s.locals →
+      IsStmt sc (tree.Declaration x e) →
+      Does f r (declarators y.outline (tree.Declaration x e) opened n) (laws.stmt_code (layout_with y r) p q (tree.Declaration x e) opened n)
+      (suc sc.locals) s (declared y x e n s)
   declarations x None sc n s p q opened w h = record { emits = declares n.reg s; locals = declare_more n.reg sc.locals s w }
   declarations x (Some e) sc n s p q opened w h =
       let value = laws.local_past (y.outline.is_array x) n in
@@ -110,11 +113,21 @@ module _ (f r : ℕ → ℕ) (y : Fixed) where
 
 -- the sections of a switch
 pub record Filled (f r : ℕ → ℕ) (y : Fixed) (p q : End) (ss : Sections) (at : ℕ) (opened : Bool) (n : Numbers) (m : ℕ) (s s1 : Draft) : Type 0 where
-  pub fills : Fills f r (section_declarators y.outline ss opened n) (laws.sections_code (layout_with y r) p q ss opened n) (CasesAt f y.outline ss at opened n) at (cases_at ss at) s s1
+  pub fills : Fills f r (section_declarators y.outline ss opened n) (laws.sections_code (layout_with y r) p q ss opened n)
+      (CasesAt f y.outline ss at opened n) at (cases_at ss at) s s1
   pub locals : m ≤ length s1.locals
 
-says_of : {f r : ℕ → ℕ} {d : List ℕ → List ℕ} {c : Code → Code} {P Q : Type 0} {lo hi : ℕ} {s s1 : Draft} → (P → Q) → Fills f r d c P lo hi s s1 → Fills f r d c Q lo hi s s1
-says_of t p = record { more = p.more; before = p.before; behind = p.behind; locals = p.locals; declares = p.declares; says = λ g. t (p.says g); code = p.code }
+says_of : {f r : ℕ → ℕ} {d : List ℕ → List ℕ} {c : Code → Code} {P Q : Type 0} {lo hi : ℕ} {s s1 : Draft} → (P → Q) → Fills f r d c P lo hi s s1 →
+    Fills f r d c Q lo hi s s1
+says_of t p = record {
+  more = p.more;
+  before = p.before;
+  behind = p.behind;
+  locals = p.locals;
+  declares = p.declares;
+  says = λ g. t (p.says g);
+  code = p.code;
+}
 
 -- the labels of the cases stand in a row behind those that were there
 cases_room : (ss : Sections) (s : Draft) → cases_at ss (next_label s) ≤ length (cases_marked ss s).targets
@@ -126,11 +139,13 @@ cases_more ss n s w = subst (λ (l : List ℕ). n ≤ length l) (sym (marked_cas
 
 -- the whole of a switch, behind its word in register x
 switched : (f r : ℕ → ℕ) (y : Fixed) (x : ℕ) (ss : Sections) (l : ℕ) (q : End) (body tests : Numbers) (held start end : Draft) →
-    Emits f r (λ k. k) (λ k. cases_by f x ss (next_label held) tests (close (ends.Jump (f (default_label ss (next_label held) l))) k)) (cases_marked ss held) start →
-    Fills f r (section_declarators y.outline ss false body) (laws.sections_code (layout_with y r) (ends.Jump (f l)) (settle f q) ss false body) (CasesAt f y.outline ss (next_label held) false body) (next_label held) (cases_at ss (next_label held)) start end →
+    Emits f r (λ k. k) (λ k. cases_by f x ss (next_label held) tests (close (ends.Jump (f (default_label ss (next_label held) l))) k))
+    (cases_marked ss held) start →
+    Fills f r (section_declarators y.outline ss false body) (laws.sections_code (layout_with y r) (ends.Jump (f l)) (settle f q) ss false body)
+    (CasesAt f y.outline ss (next_label held) false body) (next_label held) (cases_at ss (next_label held)) start end →
     Emits f r (section_declarators y.outline ss false body) (λ k. tests_code (layout_with y r) x ss false body tests
-        (close (ends.Jump (section_block y.outline is_default ss false body (f l)))
-        (laws.sections_code (layout_with y r) (ends.Jump (f l)) (settle f q) ss false body k))) held end
+    (close (ends.Jump (section_block y.outline is_default ss false body (f l)))
+    (laws.sections_code (layout_with y r) (ends.Jump (f l)) (settle f q) ss false body k))) held end
 unfolding next_label
 switched f r y x ss l q body tests held start end t p =
     let at = length held.targets in
@@ -144,34 +159,36 @@ switched f r y x ss l q body tests held start end t p =
     } in
     let agrees : Agrees f r held end → Agrees f r (cases_marked ss held) start = λ g. record {
       labels = λ a h i.
-        let v : length held.targets ≤ a = omega (arith, h, m.targets.more) in
-        let j : a < length end.targets = omega (arith, i, p.more) in
-        let u : cases_at ss at ≤ a = omega (arith, h, size) in
-        g.labels a v j ∙ p.behind a i u;
+          let v : length held.targets ≤ a = omega (arith, h, m.targets.more) in
+          let j : a < length end.targets = omega (arith, i, p.more) in
+          let u : cases_at ss at ≤ a = omega (arith, h, size) in
+          g.labels a v j ∙ p.behind a i u;
       locals = λ a h. let j : a < length end.locals = omega (arith, h, p.locals.more) in g.locals a j ∙ p.locals.keeps a h;
     } in
     record {
       targets = record {
         more = omega (arith, m.targets.more, t.targets.more, p.more);
         keeps = λ a h.
-          let h1 : a < length (cases_marked ss held).targets = omega (arith, h, m.targets.more) in
-          let h2 : a < length start.targets = omega (arith, h1, t.targets.more) in
-          p.before a h2 h ∙ t.targets.keeps a h1 ∙ m.targets.keeps a h;
+            let h1 : a < length (cases_marked ss held).targets = omega (arith, h, m.targets.more) in
+            let h2 : a < length start.targets = omega (arith, h1, t.targets.more) in
+            p.before a h2 h ∙ t.targets.keeps a h1 ∙ m.targets.keeps a h;
       };
       locals = subst (λ (v : List ℕ). Grown v end.locals) m.locals (grown_then t.locals p.locals);
-      declares = λ k. p.declares k ∙ t.declares (section_declarators y.outline ss false body k) ∙ ap (λ (v : List ℕ). v ++ section_declarators y.outline ss false body k) m.locals;
+      declares = λ k. p.declares k ∙ t.declares (section_declarators y.outline ss false body k)
+          ∙ ap (λ (v : List ℕ). v ++ section_declarators y.outline ss false body k) m.locals;
       code = λ g k.
-        let there = p.says (right g) in
-        let rest = laws.sections_code (layout_with y r) (ends.Jump (f l)) (settle f q) ss false body k in
-        p.code (right g) k ∙ t.code (agrees g) rest ∙ m.code _
-        ∙ ap (λ b. joined f held (cases_by f x ss at tests (close (ends.Jump b) rest))) (default_right f y.outline ss at false body l there)
-        ∙ ap (λ j. joined f held j) (cases_right f (layout_with y r) x ss at false body tests _ there);
+          let there = p.says (right g) in
+          let rest = laws.sections_code (layout_with y r) (ends.Jump (f l)) (settle f q) ss false body k in
+          p.code (right g) k ∙ t.code (agrees g) rest ∙ m.code _
+          ∙ ap (λ b. joined f held (cases_by f x ss at tests (close (ends.Jump b) rest))) (default_right f y.outline ss at false body l there)
+          ∙ ap (λ j. joined f held j) (cases_right f (layout_with y r) x ss at false body tests _ there);
     }
 
 module _ (f r : ℕ → ℕ) (y : Fixed) where
   mutual
     pub states : (a : Stmt) (sc : Scope) (p q : End) (opened : Bool) (n : Numbers) (s : Draft) → sc.locals ≤ length s.locals → IsStmt sc a →
-        Does f r (declarators y.outline a opened n) (laws.stmt_code (layout_with y r) (settle f p) (settle f q) a opened n) (locals_behind a sc.locals) s (stated y p q a opened n s)
+        Does f r (declarators y.outline a opened n) (laws.stmt_code (layout_with y r) (settle f p) (settle f q) a opened n)
+        (locals_behind a sc.locals) s (stated y p q a opened n s)
     states tree.Empty sc p q opened n s w h = record { emits = none s; locals = w }
     states (tree.Sequence a b) sc p q opened n s w h =
         let g = states a sc p q opened n s w h.0 in
@@ -193,7 +210,7 @@ module _ (f r : ℕ → ℕ) (y : Fixed) where
         let body = states a sc p q true inside _ (still (still (still w g) m) b) h.1 in
         let inner = one_then b (one_then body.emits (begins (laws.open_behind a true) last _)) in
         let held = hole {f = f} {r = r} after.block (λ v k. close (ends.Branch x inside.block v)
-            (laws.stmt_code (layout_with y r) (settle f p) (settle f q) a true inside (label (laws.open_behind a true) last k))) inner in
+        (laws.stmt_code (layout_with y r) (settle f p) (settle f q) a true inside (label (laws.open_behind a true) last k))) inner in
         record { emits = one_then g held; locals = arrived_more l _ last _ _ body.locals }
     states (tree.IfElse e a b) sc p q opened n s w h =
         let asked = exprs.past e n in
@@ -213,7 +230,7 @@ module _ (f r : ℕ → ℕ) (y : Fixed) where
         let yes = states a sc p q true first _ (still (still (still (still w g) m1) m2) c) h.1 in
         let inner = one_then c (one_then yes.emits (closes (ends.Jump l) _)) in
         let held = hole {f = f} {r = r} second.block (λ v k. close (ends.Branch x first.block v)
-            (laws.stmt_code (layout_with y r) (settle f p) (settle f q) a true first (close (ends.Jump (f l)) k))) inner in
+        (laws.stmt_code (layout_with y r) (settle f p) (settle f q) a true first (close (ends.Jump (f l)) k))) inner in
         let no = states b (behind a sc) p q true second _ (turned_more l other turn _ _ yes.locals) h.2 in
         let outer = one_then held (one_then no.emits (begins (laws.open_behind b true) last _)) in
         record {
@@ -267,10 +284,10 @@ module _ (f r : ℕ → ℕ) (y : Fixed) where
         let d = states a sc (ends.Jump l) (ends.Loop top) true body _ (still (still (still (still (still w g) m1) v) m2) b) h.1 in
         let inner = one_then b (one_then d.emits (closes (ends.Loop top) _)) in
         let held = hole {f = f} {r = r} (past_end last).block (λ t k. close (ends.Branch x body.block t)
-            (laws.stmt_code (layout_with y r) (ends.Jump t) (ends.Loop (f top)) a true body (close (ends.Loop (f top)) k))) inner in
+        (laws.stmt_code (layout_with y r) (ends.Jump t) (ends.Loop (f top)) a true body (close (ends.Loop (f top)) k))) inner in
         let all = one_then v held in
         let whole = known {f = f} {r = r} head.block (λ t k. exprs.code (layout_with y r) e head (close (ends.Branch x body.block (past_end last).block)
-            (laws.stmt_code (layout_with y r) (ends.Jump (past_end last).block) (ends.Loop t) a true body (close (ends.Loop t) k)))) all in
+        (laws.stmt_code (layout_with y r) (ends.Jump (past_end last).block) (ends.Loop t) a true body (close (ends.Loop t) k)))) all in
         record { emits = one_then g whole; locals = looped_more top l last _ _ d.locals }
     states (tree.Do a e) sc p q opened n s w h =
         let body = past_label opened n in
@@ -289,17 +306,21 @@ module _ (f r : ℕ → ℕ) (y : Fixed) where
         let m2 = marks {f = f} {r = r} 0 held in
         let m3 = marks {f = f} {r = r} 0 (mark 0 held) in
         let d = states a sc (ends.Jump l) (ends.Jump ask) true body (mark 0 (mark 0 held)) (still (still (still (still w g) m1) m2) m3) h.0 in
-        let inside = hole {f = f} {r = r} asked.block (λ t k. laws.stmt_code (layout_with y r) (ends.Jump (f l)) (ends.Jump t) a true body (label (laws.open_behind a true) last k))
-            (one_then d.emits (begins (laws.open_behind a true) last _)) in
+        let inside = hole {f = f} {r = r} asked.block
+        (λ t k. laws.stmt_code (layout_with y r) (ends.Jump (f l)) (ends.Jump t) a true body (label (laws.open_behind a true) last k))
+        (one_then d.emits (begins (laws.open_behind a true) last _)) in
         let here = arrived_more ask (laws.open_behind a true) last (locals_behind a sc.locals) _ d.locals in
         let w1 = still (still (still (still w g) m1) m2) inside in
         let v = emits_expr f r y sc e asked _ w1 h.1.0 in
-        let b = branches {f = f} {r = r} x l (exprs.past e asked) (written y e asked (arrived ask (laws.open_behind a true) last (stated y (ends.Jump l) (ends.Jump ask) a true body (mark 0 (mark 0 held))))) in
+        let b = branches {f = f} {r = r} x l (exprs.past e asked)
+        (written y e asked (arrived ask (laws.open_behind a true) last (stated y (ends.Jump l) (ends.Jump ask) a true body (mark 0 (mark 0 held))))) in
         let outer = one_then inside (one_then v (one_then b (closes (ends.Loop top) _))) in
-        let all = hole {f = f} {r = r} after.block (λ t k. laws.stmt_code (layout_with y r) (ends.Jump t) (ends.Jump asked.block) a true body (label (laws.open_behind a true) last
-            (exprs.code (layout_with y r) e asked (close (ends.Branch x again.block t) (close (ends.Loop (f top)) k))))) outer in
-        let whole = known {f = f} {r = r} body.block (λ t k. laws.stmt_code (layout_with y r) (ends.Jump after.block) (ends.Jump asked.block) a true body (label (laws.open_behind a true) last
-            (exprs.code (layout_with y r) e asked (close (ends.Branch x again.block after.block) (close (ends.Loop t) k))))) all in
+        let all = hole {f = f} {r = r} after.block
+        (λ t k. laws.stmt_code (layout_with y r) (ends.Jump t) (ends.Jump asked.block) a true body (label (laws.open_behind a true) last
+        (exprs.code (layout_with y r) e asked (close (ends.Branch x again.block t) (close (ends.Loop (f top)) k))))) outer in
+        let whole = known {f = f} {r = r} body.block
+        (λ t k. laws.stmt_code (layout_with y r) (ends.Jump after.block) (ends.Jump asked.block) a true body (label (laws.open_behind a true) last
+        (exprs.code (layout_with y r) e asked (close (ends.Branch x again.block after.block) (close (ends.Loop t) k))))) all in
         record { emits = one_then g whole; locals = looped_more top l again _ _ (still (still here v) b) }
     states (tree.For a b c t) sc p q opened n s w h =
         let first = laws.optional_past a n in
@@ -323,22 +344,29 @@ module _ (f r : ℕ → ℕ) (y : Fixed) where
         let w3 = still (still (still (still w g) m1) m2) m3 in
         let v = conditions f r y b sc l head (mark 0 (mark 0 held)) w3 h.1 in
         let d = states t sc (ends.Jump l) (ends.Jump next) true body _ (still w3 v) h.3 in
-        let inside = hole {f = f} {r = r} step.block (λ u k. laws.condition_code (layout_with y r) b head body.block (f l) (laws.stmt_code (layout_with y r) (ends.Jump (f l)) (ends.Jump u) t true body (label (laws.open_behind t true) last k)))
-            (one_then v (one_then d.emits (begins (laws.open_behind t true) last _))) in
+        let inside = hole {f = f} {r = r} step.block
+        (λ u k. laws.condition_code (layout_with y r) b head body.block (f l)
+        (laws.stmt_code (layout_with y r) (ends.Jump (f l)) (ends.Jump u) t true body (label (laws.open_behind t true) last k)))
+        (one_then v (one_then d.emits (begins (laws.open_behind t true) last _))) in
         let here = arrived_more next (laws.open_behind t true) last (locals_behind t sc.locals) _ d.locals in
         let w1 = still (still (still (still w g) m1) m2) inside in
         let u = optionals f r y c sc step _ w1 h.2 in
         let outer = one_then inside (one_then u (closes (ends.Loop top) _)) in
-        let all = hole {f = f} {r = r} after.block (λ z k. laws.condition_code (layout_with y r) b head body.block z (laws.stmt_code (layout_with y r) (ends.Jump z) (ends.Jump step.block) t true body (label (laws.open_behind t true) last
-            (laws.optional_code (layout_with y r) c step (close (ends.Loop (f top)) k))))) outer in
-        let whole = known {f = f} {r = r} head.block (λ z k. laws.condition_code (layout_with y r) b head body.block after.block (laws.stmt_code (layout_with y r) (ends.Jump after.block) (ends.Jump step.block) t true body (label (laws.open_behind t true) last
-            (laws.optional_code (layout_with y r) c step (close (ends.Loop z) k))))) all in
+        let all = hole {f = f} {r = r} after.block
+        (λ z k. laws.condition_code (layout_with y r) b head body.block z
+        (laws.stmt_code (layout_with y r) (ends.Jump z) (ends.Jump step.block) t true body (label (laws.open_behind t true) last
+        (laws.optional_code (layout_with y r) c step (close (ends.Loop (f top)) k))))) outer in
+        let whole = known {f = f} {r = r} head.block
+        (λ z k. laws.condition_code (layout_with y r) b head body.block after.block
+        (laws.stmt_code (layout_with y r) (ends.Jump after.block) (ends.Jump step.block) t true body (label (laws.open_behind t true) last
+        (laws.optional_code (layout_with y r) c step (close (ends.Loop z) k))))) all in
         record { emits = one_then g whole; locals = looped_more top l again _ _ (still here u) }
     states tree.Break sc p q opened n s w h = does w (closes p s)
     states tree.Continue sc p q opened n s w h = does w (closes q s)
     states (tree.Return e) sc p q opened n s w h = does w (returns f r y e sc n s (settle f p) (settle f q) opened w h)
 
-    pub section_states : (ss : Sections) (sc : Scope) (p q : End) (at : ℕ) (opened : Bool) (n : Numbers) (s : Draft) → sc.locals ≤ length s.locals → cases_at ss at ≤ length s.targets → AreSections sc ss →
+    pub section_states : (ss : Sections) (sc : Scope) (p q : End) (at : ℕ) (opened : Bool) (n : Numbers) (s : Draft) → sc.locals ≤ length s.locals →
+        cases_at ss at ≤ length s.targets → AreSections sc ss →
         Filled f r y (settle f p) (settle f q) ss at opened n (sections_behind ss sc.locals) s (sections y p q ss at opened n s)
     section_states tree.End sc p q at opened n s w room h = record { fills = fills_none at (none s); locals = w }
     section_states (tree.Section ls a rest) sc p q at opened n s w room h =

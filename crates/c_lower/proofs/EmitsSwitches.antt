@@ -79,7 +79,8 @@ CasesAt f y (tree.Section ls a rest) at opened n =
 abbrev pub labels_by : (ℕ → ℕ) → ℕ → List Label → ℕ → Numbers → Code → Code
 labels_by f x [] at n k = k
 labels_by f x (labels.Case c ∷ ls) at n k =
-    put (instr.Const n.reg c) (put (instr.Bin op.Eq (suc n.reg) x n.reg) (close (ends.Branch (suc n.reg) (f at) (suc n.block)) (labels_by f x ls (suc at) (test_past n) k)))
+    put (instr.Const n.reg c)
+    (put (instr.Bin op.Eq (suc n.reg) x n.reg) (close (ends.Branch (suc n.reg) (f at) (suc n.block)) (labels_by f x ls (suc at) (test_past n) k)))
 labels_by f x (labels.Default ∷ ls) at n k = labels_by f x ls (suc at) n k
 
 abbrev pub cases_by : (ℕ → ℕ) → ℕ → Sections → ℕ → Numbers → Code → Code
@@ -87,40 +88,52 @@ cases_by f x tree.End at n k = k
 cases_by f x (tree.Section ls a rest) at n k = labels_by f x ls at n (cases_by f x rest (labels_at ls at) (label_tests_past ls n) k)
 
 case_tests : {f r : ℕ → ℕ} (x : ℕ) (c : _) (at : ℕ) (n : Numbers) (s : Draft) →
-    Emits f r (λ l. l) (λ k. put (instr.Const n.reg c) (put (instr.Bin op.Eq (suc n.reg) x n.reg) (close (ends.Branch (suc n.reg) (f at) (suc n.block)) k))) s (case_tested x c at n s)
+    Emits f r (λ l. l) (λ k. put (instr.Const n.reg c)
+    (put (instr.Bin op.Eq (suc n.reg) x n.reg) (close (ends.Branch (suc n.reg) (f at) (suc n.block)) k))) s (case_tested x c at n s)
 case_tests {f = f} x c at n s =
-    one_then (puts _ s) (one_then (puts _ _) (known (suc n.block) (λ v k. close (ends.Branch (suc n.reg) (f at) v) k) (closes (ends.Branch (suc n.reg) at (next_label _)) _)))
+    one_then (puts _ s) (one_then (puts _ _)
+    (known (suc n.block) (λ v k. close (ends.Branch (suc n.reg) (f at) v) k) (closes (ends.Branch (suc n.reg) at (next_label _)) _)))
 
-labels_tests : {f r : ℕ → ℕ} (x : ℕ) (ls : List Label) (at : ℕ) (n : Numbers) (s : Draft) → Emits f r (λ l. l) (labels_by f x ls at n) s (labels_tested x ls at n s)
+labels_tests : {f r : ℕ → ℕ} (x : ℕ) (ls : List Label) (at : ℕ) (n : Numbers) (s : Draft) →
+    Emits f r (λ l. l) (labels_by f x ls at n) s (labels_tested x ls at n s)
 labels_tests x [] at n s = none s
 labels_tests x (labels.Case c ∷ ls) at n s = one_then (case_tests x c at n s) (labels_tests x ls (suc at) (test_past n) _)
 labels_tests x (labels.Default ∷ ls) at n s = labels_tests x ls (suc at) n s
 
-pub cases_tests : {f r : ℕ → ℕ} (x : ℕ) (ss : Sections) (at : ℕ) (n : Numbers) (s : Draft) → Emits f r (λ l. l) (cases_by f x ss at n) s (cases_tested x ss at n s)
+pub cases_tests : {f r : ℕ → ℕ} (x : ℕ) (ss : Sections) (at : ℕ) (n : Numbers) (s : Draft) →
+    Emits f r (λ l. l) (cases_by f x ss at n) s (cases_tested x ss at n s)
 cases_tests x tree.End at n s = none s
 cases_tests x (tree.Section ls a rest) at n s = one_then (labels_tests x ls at n s) (cases_tests x rest (labels_at ls at) (label_tests_past ls n) _)
 
-labels_right : (f : ℕ → ℕ) (x : ℕ) (ls : List Label) (at : ℕ) (opened : Bool) (there n : Numbers) (k : Code) → LabelsAt f ls at opened there → labels_by f x ls at n k ≡ label_tests x ls opened there n k
+labels_right : (f : ℕ → ℕ) (x : ℕ) (ls : List Label) (at : ℕ) (opened : Bool) (there n : Numbers) (k : Code) → LabelsAt f ls at opened there →
+    labels_by f x ls at n k ≡ label_tests x ls opened there n k
 labels_right f x [] at opened there n k h = refl
 labels_right f x (labels.Case c ∷ ls) at opened there n k h =
-    ap (λ b. put (instr.Const n.reg c) (put (instr.Bin op.Eq (suc n.reg) x n.reg) (close (ends.Branch (suc n.reg) b (suc n.block)) (labels_by f x ls (suc at) (test_past n) k)))) h.0
-    ∙ ap (λ j. put (instr.Const n.reg c) (put (instr.Bin op.Eq (suc n.reg) x n.reg) (close (ends.Branch (suc n.reg) (past_label opened there).block (suc n.block)) j))) (labels_right f x ls (suc at) true (past_label opened there) (test_past n) k h.1)
+    ap (λ b. put (instr.Const n.reg c)
+    (put (instr.Bin op.Eq (suc n.reg) x n.reg) (close (ends.Branch (suc n.reg) b (suc n.block)) (labels_by f x ls (suc at) (test_past n) k)))) h.0
+    ∙ ap (λ j. put (instr.Const n.reg c)
+    (put (instr.Bin op.Eq (suc n.reg) x n.reg) (close (ends.Branch (suc n.reg) (past_label opened there).block (suc n.block)) j)))
+    (labels_right f x ls (suc at) true (past_label opened there) (test_past n) k h.1)
 labels_right f x (labels.Default ∷ ls) at opened there n k h = labels_right f x ls (suc at) true (past_label opened there) n k h.1
 
-pub cases_right : (f : ℕ → ℕ) (y : Layout) (x : ℕ) (ss : Sections) (at : ℕ) (opened : Bool) (there n : Numbers) (k : Code) → CasesAt f y.outline ss at opened there → cases_by f x ss at n k ≡ tests_code y x ss opened there n k
+pub cases_right : (f : ℕ → ℕ) (y : Layout) (x : ℕ) (ss : Sections) (at : ℕ) (opened : Bool) (there n : Numbers) (k : Code) →
+    CasesAt f y.outline ss at opened there → cases_by f x ss at n k ≡ tests_code y x ss opened there n k
 cases_right f y x tree.End at opened there n k h = refl
 cases_right f y x (tree.Section ls a rest) at opened there n k h =
     let inside = labels_open ls opened in
     let after = labels_past ls opened there in
     labels_right f x ls at opened there n _ h.0
-    ∙ ap (λ j. label_tests x ls opened there n j) (cases_right f y x rest (labels_at ls at) (open_behind a inside) (stmt_past y.outline a inside after) (label_tests_past ls n) k h.1)
+    ∙ ap (λ j. label_tests x ls opened there n j)
+    (cases_right f y x rest (labels_at ls at) (open_behind a inside) (stmt_past y.outline a inside after) (label_tests_past ls n) k h.1)
 
-default_of : (f : ℕ → ℕ) (ls : List Label) (at : ℕ) (opened : Bool) (n : Numbers) (l none : ℕ) → LabelsAt f ls at opened n → f l ≡ none → f (or_label (default_in ls at) l) ≡ label_block is_default ls opened n none
+default_of : (f : ℕ → ℕ) (ls : List Label) (at : ℕ) (opened : Bool) (n : Numbers) (l none : ℕ) → LabelsAt f ls at opened n → f l ≡ none →
+    f (or_label (default_in ls at) l) ≡ label_block is_default ls opened n none
 default_of f [] at opened n l none h e = e
 default_of f (labels.Case c ∷ ls) at opened n l none h e = default_of f ls (suc at) true (past_label opened n) l none h.1 e
 default_of f (labels.Default ∷ ls) at opened n l none h e = h.0
 
-pub default_right : (f : ℕ → ℕ) (y : Outline) (ss : Sections) (at : ℕ) (opened : Bool) (n : Numbers) (l : ℕ) → CasesAt f y ss at opened n → f (default_label ss at l) ≡ section_block y is_default ss opened n (f l)
+pub default_right : (f : ℕ → ℕ) (y : Outline) (ss : Sections) (at : ℕ) (opened : Bool) (n : Numbers) (l : ℕ) → CasesAt f y ss at opened n →
+    f (default_label ss at l) ≡ section_block y is_default ss opened n (f l)
 default_right f y tree.End at opened n l h = refl
 default_right f y (tree.Section ls a rest) at opened n l h =
     let inside = labels_open ls opened in
@@ -155,7 +168,8 @@ fills_none at p = record {
   code = λ g k. p.code (record { labels = g.labels; locals = g.locals }) k;
 }
 
-pub fills_then : {f r : ℕ → ℕ} {d e : List ℕ → List ℕ} {c k : Code → Code} {P Q : Type 0} {s s1 s2 : Draft} (lo mid hi : ℕ) → lo ≤ mid → mid ≤ hi → hi ≤ length s.targets →
+pub fills_then : {f r : ℕ → ℕ} {d e : List ℕ → List ℕ} {c k : Code → Code} {P Q : Type 0} {s s1 s2 : Draft} (lo mid hi : ℕ) → lo ≤ mid → mid ≤ hi →
+    hi ≤ length s.targets →
     Fills f r d c P lo mid s s1 → Fills f r e k Q mid hi s1 s2 → Fills f r (λ l. d (e l)) (λ l. c (k l)) (P × Q) lo hi s s2
 fills_then {f = f} {r = r} {d = d} {e = e} {c = c} {k = k} {s = s} {s1 = s1} {s2 = s2} lo mid hi a b room p q =
     let second : Right f r lo hi s s2 → Right f r mid hi s1 s2 = λ g. record {
@@ -165,7 +179,8 @@ fills_then {f = f} {r = r} {d = d} {e = e} {c = c} {k = k} {s = s} {s1 = s1} {s2
     } in
     let first : Right f r lo hi s s2 → Right f r lo mid s s1 = λ g. record {
       row = λ l h i j. let m : l < hi = omega (arith, i, b) in let t : l < length s2.targets = omega (arith, j, q.more) in g.row l h m t ∙ q.before l j i;
-      labels = λ l h i. let t : l < length s2.targets = omega (arith, i, q.more) in let m : hi ≤ l = omega (arith, h, room) in g.labels l h t ∙ q.behind l i m;
+      labels = λ l h i. let t : l < length s2.targets = omega (arith, i, q.more) in let m : hi ≤ l = omega (arith, h, room) in g.labels l h t
+          ∙ q.behind l i m;
       locals = λ x h. let t : x < length s2.locals = omega (arith, h, q.locals.more) in g.locals x t ∙ q.locals.keeps x h;
     } in
     record {
@@ -179,7 +194,8 @@ fills_then {f = f} {r = r} {d = d} {e = e} {c = c} {k = k} {s = s} {s1 = s1} {s2
     }
 
 -- a label that was there is reached
-reaches : {f r : ℕ → ℕ} {d : List ℕ → List ℕ} {c : Code → Code} {s s1 : Draft} (at b : ℕ) → at < length s.targets → Emits f r d c s s1 → Fills f r d c (f at ≡ b) at (suc at) s (reach at b s1)
+reaches : {f r : ℕ → ℕ} {d : List ℕ → List ℕ} {c : Code → Code} {s s1 : Draft} (at b : ℕ) → at < length s.targets → Emits f r d c s s1 →
+    Fills f r d c (f at ≡ b) at (suc at) s (reach at b s1)
 unfolding reach
 reaches {f = f} {r = r} {s = s} {s1 = s1} at b lt p =
     let size : length (slice_set s1.targets at b) ≡ length s1.targets = length-set s1.targets at b in

@@ -8,7 +8,7 @@ use Rattle.sym_tables.specs.Table.{Table}
 use Rattle.c_typed.specs.declared.function.Local.{Local}
 use Rattle.c_typed.specs.Trees.{Stmt, Function}
 use Rattle.lower_laws.specs.Code.{Numbers}
-use Rattle.lower_laws.specs.Functions.{lowered, with_length}
+use Rattle.lower_laws.specs.Functions.{arrays_before, lowered, outline_of, with_length}
 use Rattle.lower_laws.specs.Statements.{no_value_past, stmt_past}
 use Rattle.c_lower.specs.Drafts.{Draft, Fixed, next_label, mark, reach}
 use Rattle.c_lower.specs.Statements.{no_value, stated}
@@ -31,6 +31,10 @@ sites_of syms counts pid = counts.site (name_at syms pid)
 -- the routine of a function
 unfoldable pub routine_of : Table → Counts → Function → RoutineParts
 routine_of syms counts f = lowered (entry_of syms counts f.pid) (sites_of syms counts f.pid) f
+
+-- what is fixed for a function besides the registers of its locals
+abbrev pub fixed : (ℕ → ℕ) → Function → Fixed
+fixed count f = record { outline = outline_of f; array = arrays_before f.locals; count = count }
 
 -- nothing is written yet
 abbrev pub nothing : Draft

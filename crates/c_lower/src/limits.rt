@@ -24,10 +24,8 @@ fn keeps_limits(instr: &Instr) -> bool
 {
     match instr {
         Instr::Conv(_, ty, _) => is_narrow(*ty),
-        Instr::Get(_, pid)
-        | Instr::Set(pid, _)
-        | Instr::GetX(_, pid, _)
-        | Instr::SetX(pid, _, _) => *pid < limits::PIDS,
+        Instr::Get(_, pid) | Instr::Set(pid, _) | Instr::GetX(_, pid, _) | Instr::SetX(pid, _, _) =>
+            *pid < limits::PIDS,
         Instr::Call { callee, args, .. } => {
             *callee < limits::PIDS && args.len() <= limits::PARAMETERS as usize
         }

@@ -105,7 +105,13 @@ impl Writer {
     }
 
     /// A binary operator that works in a type.
-    pub(crate) fn operate(&mut self, op: BinaryOp, ty: Ty, x: u32, y: u32) -> Result<u32, LowerFault>
+    pub(crate) fn operate(
+        &mut self,
+        op: BinaryOp,
+        ty: Ty,
+        x: u32,
+        y: u32,
+    ) -> Result<u32, LowerFault>
         ensures register { IfOk result (λ r. r ≡ self.old.numbers.reg) }
         ensures numbers { OnOk result (self.new.numbers ≡ past_new self.old.numbers) }
         ensures draft { OnOk result (self.new.draft ≡ specs.operated op ty x y self.old.numbers self.old.draft) }
@@ -220,7 +226,13 @@ impl Writer {
     }
 
     /// `++` or `--` of a spot of type `ty`, which is a compound assignment of 1.
-    pub(crate) fn step(&mut self, ty: Ty, step: Step, spot: Spot, c: &Setting) -> Result<u32, LowerFault>
+    pub(crate) fn step(
+        &mut self,
+        ty: Ty,
+        step: Step,
+        spot: Spot,
+        c: &Setting,
+    ) -> Result<u32, LowerFault>
         ensures register { IfOk result (λ r. r ≡ specs.stepped_result ty self.old.numbers) }
         ensures numbers { OnOk result (self.new.numbers ≡ specs.stepped_past ty self.old.numbers) }
         ensures draft { OnOk result (self.new.draft ≡ specs.stepped (fixed_of c.now) ty (typed.step_op step) (spot_of spot) self.old.numbers self.old.draft) }

@@ -104,7 +104,12 @@ impl Writer {
     }
 
     /// The condition of `for`.
-    fn condition(&mut self, e: &Option<TypedExpr>, behind: u32, c: &Setting) -> Result<(), LowerFault>
+    fn condition(
+        &mut self,
+        e: &Option<TypedExpr>,
+        behind: u32,
+        c: &Setting,
+    ) -> Result<(), LowerFault>
         ensures numbers { OnOk result (self.new.numbers ≡ laws.condition_past (optional_of e.now) self.old.numbers) }
         ensures draft { OnOk result (self.new.draft ≡ specs.condition (fixed_of c.now) (optional_of e.now) behind self.old.numbers self.old.draft) }
     {

@@ -1,12 +1,14 @@
 //! The writer of a routine's draft.
-ghost use Rattle.std.specs.Prelude.{◌≡◌, suc, [], slice_index, IfOk, OnOk};
+ghost use Rattle.std.specs.Prelude.{◌≡◌, suc, [], map, slice_index, IfOk, OnOk};
 ghost use Rattle.lower_laws.specs.Code.{past_reg, past_instr, past_end, past_site, past_new, past_label};
 ghost use Rattle.c_lower.specs.Drafts as drafts;
-ghost use Rattle.c_lower.specs.Expressions as specs;
+ghost use Rattle.c_lower.specs.Lowering.{nothing};
+ghost use Rattle.c_lower.specs.Settled.{settle, settled};
 
 use crate::fault::LowerFault;
 use hlo_num::Seq;
 use il_core::{Block, End, Instr};
+use std::alloc::Global;
 use std::marker::Model;
 
 /// The code of a function that is written so far. The ends of its blocks name labels where a routine names
@@ -56,7 +58,78 @@ fn place(len: usize) -> Result<u32, LowerFault>
     Ok(len as u32)
 }
 
+/// The block of a label, and 0 for one that isn't there.
+fn target(targets: &[u32], label: u32) -> u32
+    ensures { result ≡ slice_index targets.now label }
+{
+    match targets.get(label as usize) {
+        Some(block) => *block,
+        None => 0,
+    }
+}
+
+/// An end with the block of each label that it names.
+fn settle(targets: &[u32], end: End) -> End
+    ensures { result ≡ settle (slice_index targets.now) end }
+{
+    match end {
+        End::Jump(label) => End::Jump(target(targets, label)),
+        End::Branch(register, yes, no) => {
+            End::Branch(register, target(targets, yes), target(targets, no))
+        }
+        End::Loop(label) => End::Loop(target(targets, label)),
+        End::Return(register) => End::Return(register),
+        End::Exit(register) => End::Exit(register),
+    }
+}
+
+/// The ends of blocks name blocks in place of labels.
+fn settle_blocks(blocks: &mut [Block], targets: &[u32])
+    ensures { blocks.new ≡ map (settled (slice_index targets.now)) blocks.old }
+{
+    for block in blocks.iter_mut() {
+        block.end = settle(targets, block.end);
+    }
+}
+
 impl Writer {
+    /// A writer of nothing so far, where so many registers are taken.
+    pub(crate) fn new(alloc: Global, params: u32) -> Writer
+        ensures numbers { result.numbers ≡ record { reg = params; block = 0; site = 0; size = 0 } }
+        ensures draft { result.draft ≡ nothing }
+    {
+        Writer {
+            done: Vec::new(alloc),
+            here: Vec::new(alloc),
+            targets: Vec::new(alloc),
+            locals: Vec::new(alloc),
+            reg: params,
+            block: 0,
+            site: 0,
+            size: 0,
+        }
+    }
+
+    /// The finished blocks, whose ends name blocks.
+    pub(crate) fn into_blocks(self) -> Vec<Block>
+        ensures { result.items ≡ map (settled (slice_index self.draft.targets)) self.draft.done }
+    {
+        let Writer {
+            mut done,
+            targets,
+            ..
+        } = self;
+        settle_blocks(done.as_mut_slice(), targets.as_slice());
+        done
+    }
+
+    /// How many instructions and ends there are.
+    pub(crate) fn size(&self) -> u32
+        ensures { result ≡ self.now.numbers.size }
+    {
+        self.size
+    }
+
     /// The next register.
     pub(crate) fn reg(&self) -> u32
         ensures { result ≡ self.now.numbers.reg }
