@@ -14,10 +14,14 @@ use std::{env, io};
 use stream::Stream;
 
 const HELP: &str = "\
-usage: hlo opt FILE        prints the IL of the C module in FILE
-       hlo check FILE...   checks that the FILEs are C modules that make a program
-       hlo --help          prints this text
-       hlo --version       prints the version
+usage: hlo opt FILE                prints the IL of the C module in FILE
+       hlo check FILE...           checks that the FILEs are C modules that make a program
+       hlo runil [--turns N] FILE  runs the program whose IL is in FILE, with at most N
+                                   turns: 0 to 1000000000000, 1000000000 if not given
+       hlo --help                  prints this text
+       hlo --version               prints the version
+status: 0 success, 2 usage, 3 refused file, 5 cannot read a file, 6 cannot write, 10 out
+        of memory, 11 cannot read input, 12 trap, 13 out of turns, 14 no IL program
 ";
 
 const VERSION: &str = "hlo 0.1.0";

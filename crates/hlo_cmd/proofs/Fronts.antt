@@ -5,7 +5,7 @@ use Rattle.std.proofs.KnownBytes.{Appends-trans}
 use Rattle.std.proofs.Math.Seq.{take-append-add}
 use Rattle.outside.specs.Faults.{HasCause}
 use Rattle.outside.specs.Taken.{TakesAll}
-use Rattle.hlo_cmd.specs.Command.{Says, status_line}
+use Rattle.hlo_cmd.specs.Messages.{Says, status_line}
 use Rattle.hlo_cmd.specs.declared.refusal.Refusal.{Refusal}
 use Rattle.hlo_cmd.specs.Refusal.{status_of}
 

@@ -11,7 +11,9 @@ pub mod Modules
 pub mod Numbers
 pub mod Promises
 pub mod Readings
+pub mod Refusals
 pub mod Rows
+pub mod Runs
 pub mod Sources
 pub mod Statements
 pub mod Texts

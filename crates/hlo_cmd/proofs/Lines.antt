@@ -1,14 +1,9 @@
--- The line of a fault with a place, in its pieces, and the line of a refusal.
+-- The line of a fault with a place, in its pieces.
 use Rattle.std.proofs.Common.{◌≡◌, ℕ, List, [], ◌∷◌, ◌++◌, Option, Result, sym, subst, ◌∙◌, ap, append_assoc, take, inl, inr, arith}
 use Rattle.std.specs.Prelude.{codes, decimal}
 use Rattle.std.specs.Io.KnownBytes.{Appends}
 use Rattle.outside.specs.Taken.{TakesAll}
-use Rattle.outside.specs.Told.{Told}
-use Rattle.sym_tables.specs.Table.{Table}
-use Rattle.hlo_cmd.specs.Plain.{IsCheckCause, IsRefused, check_line, check_status, place_line}
-use Rattle.hlo_cmd.specs.declared.check.CheckRefusal.{CheckRefusal}
-use Rattle.hlo_cmd.specs.declared.check.CheckRefusal.TheVariants.{Usage, File, Link}
-use Rattle.hlo_cmd.specs.declared.module_fault.FileFault.TheVariants.{NoModule, CannotRead, Memory}
+use Rattle.hlo_cmd.specs.Messages.{place_line}
 use Rattle.hlo_cmd.proofs.Fronts.{first_failed, then_failed, then_takes, takes_line}
 
 -- the front of the line up to the number, and the number with the kind
@@ -44,17 +39,3 @@ next_fails a b c file number kind name line e f g h =
 pub last_takes : {T E : Type 0} (a b c d : Option (List ℕ)) (r : Result T E) (file number kind name : List ℕ) (line : ℕ) → number ≡ decimal line → kind ≡ name → Appends a b (until_number file) → Appends b c (number_and_kind number kind) → TakesAll c d r (10 ∷ []) → TakesAll a d r (place_line file line name)
 last_takes a b c d r file number kind name line e f g h k =
     takes_line a d r _ _ (line_in_pieces file number kind name line e f) (then_takes a b d r (until_number file) (number_and_kind number kind ++ 10 ∷ []) g (then_takes b c d r (number_and_kind number kind) (10 ∷ []) h k))
-
--- a refusal with the status 3, whose line was told
-pub refused_by : (words : List (List ℕ)) (tells : List ℕ → Told) (before after : List ℕ → ℕ) (syms : Table) (Said : List ℕ → Type 0) (status : ℕ) (why : CheckRefusal) → status ≡ check_status why → IsCheckCause why words tells before after syms → Said (check_line syms why) → status ≡ 3 → IsRefused words tells before after Said
-refused_by words tells before after syms Said status Usage e cause said three =
-    let other : 2 ≡ 3 = sym e ∙ three in
-    absurd (omega (arith, other))
-refused_by words tells before after syms Said status (File file (NoModule fault)) e cause said three = inl (fault, record { files = cause.0; request = cause.1; file = file.now; ends = cause.2; said = said })
-refused_by words tells before after syms Said status (File file CannotRead) e cause said three =
-    let other : 5 ≡ 3 = sym e ∙ three in
-    absurd (omega (arith, other))
-refused_by words tells before after syms Said status (File file Memory) e cause said three =
-    let other : 10 ≡ 3 = sym e ∙ three in
-    absurd (omega (arith, other))
-refused_by words tells before after syms Said status (Link fault) e cause said three = inr (record { syms = syms; fault = fault; unlinked = cause; said = said })

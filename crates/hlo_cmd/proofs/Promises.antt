@@ -12,7 +12,8 @@ use Rattle.outside.specs.Told.{Told, Holds}
 use Rattle.hlo_cmd.specs.declared.refusal.Refusal.{Refusal}
 use Rattle.hlo_cmd.specs.declared.refusal.Refusal.TheVariants.{Usage, NotYet, CannotRead, CannotWrite, Memory}
 use Rattle.hlo_cmd.specs.declared.report.Report.{Report}
-use Rattle.hlo_cmd.specs.Command.{IsRequest, HasSource, HasNoSource, Prints, PrintsFront, Says, status_line}
+use Rattle.hlo_cmd.specs.Command.{IsRequest, HasSource, HasNoSource, Prints, PrintsFront}
+use Rattle.hlo_cmd.specs.Messages.{Says, status_line}
 use Rattle.hlo_cmd.specs.Grammar.{IsSource}
 use Rattle.hlo_cmd.specs.Lowering.{lowered, main_routine, program_of}
 use Rattle.hlo_cmd.specs.Refusal.{Refuses, status_of}

@@ -8,12 +8,9 @@ use Rattle.c_tree.specs.declared.token.Token.{Token}
 use Rattle.c_types.specs.Rules.{Breaks}
 use Rattle.c_types.specs.Typing.{module_rules, start}
 use Rattle.sym_tables.specs.Table.{Table}
+use Rattle.hlo_cmd.specs.Sizes.{most_bytes}
 use Rattle.hlo_cmd.specs.declared.module_fault.ModuleFault.{ModuleFault}
 use Rattle.hlo_cmd.specs.declared.module_fault.ModuleFault.TheVariants.{TooLong, Lexical, Syntax, Typing}
-
--- the greatest number of bytes of a module, 16 MiB
-abbrev pub most_bytes : ℕ
-most_bytes = 2 ^ 24
 
 -- the bytes aren't too many, and are a text of the lexical grammar with these tokens
 pub record HasTokens (bytes : List ℕ) (tokens : List Token) : Type 0 where

@@ -1,5 +1,5 @@
 -- What `opt` promises.
-use Rattle.std.specs.Prelude.{◌≡◌, ℕ, ◌⊎◌, ◌++◌, ◌==◌, false, List, [], ◌∷◌, Option, Some, None, take, slice_index, slice_index_or, if◌then◌else◌, codes, ⊤}
+use Rattle.std.specs.Prelude.{◌≡◌, ℕ, ◌⊎◌, ◌==◌, false, List, [], ◌∷◌, Option, Some, None, take, slice_index, slice_index_or, codes, ⊤}
 use Rattle.std.specs.Io.KnownBytes.{Appends}
 use Rattle.outside.specs.Faults.{Rose}
 use Rattle.outside.specs.Told.{Told, Untold, Absent, Holds}
@@ -79,24 +79,6 @@ pub record IsUnread (words : List (List ℕ)) (before after : List ℕ → ℕ) 
 -- the second word, which is the file's name
 abbrev pub file_word : List (List ℕ) → List ℕ
 file_word words = slice_index_or words 1 []
-
--- the line that each status puts out on standard error
-abbrev pub status_line : ℕ → List ℕ → List ℕ
-status_line status file =
-    if status == 0 then []
-    else (if status == 2 then codes "hlo: usage" ++ 10 ∷ []
-    else (if status == 3 then codes "hlo: " ++ (file ++ (codes ": NotYet" ++ 10 ∷ []))
-    else (if status == 5 then codes "hlo: cannot read " ++ (file ++ 10 ∷ [])
-    else (if status == 6 then codes "hlo: cannot write" ++ 10 ∷ [] else codes "hlo: out of memory" ++ 10 ∷ []))))
-
--- a sink gained exactly these bytes, or a front of them where its count of faults rose
-pub record SaysFront (before after : Option (List ℕ)) (old_count new_count : ℕ) (bytes : List ℕ) : Type 0 where
-  pub rose : Rose old_count new_count
-  pub front : ℕ
-  pub said : Appends before after (take front bytes)
-
-abbrev pub Says : Option (List ℕ) → Option (List ℕ) → ℕ → ℕ → List ℕ → Type 0
-Says before after old_count new_count bytes = Appends before after bytes ⊎ SaysFront before after old_count new_count bytes
 
 -- there is a report, and it is so
 abbrev pub IfSomeReport : (Report → Type 0) → Option Report → Type 0

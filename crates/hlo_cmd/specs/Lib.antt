@@ -1,13 +1,16 @@
 pub mod Check
 pub mod Checking
 pub mod Command
+pub mod Emitting
 pub mod Grammar
 pub mod Lexical
 pub mod Lowering
-pub mod Emitting
 pub mod Meaning
+pub mod Messages
 pub mod Plain
 pub mod Reading
 pub mod Refusal
+pub mod RunIl
 pub mod Scanning
+pub mod Sizes
 pub mod Tree

@@ -1,5 +1,6 @@
 -- What the commands other than `opt` promise.
-use Rattle.std.specs.Prelude.{◌≡◌, ℕ, ◌≤◌, ◌⊎◌, ◌++◌, List, [], ◌∷◌, All, Some, None, length, codes, decimal, option_map, unwrap_or}
+use Rattle.std.specs.Prelude.{◌≡◌, ◌↔◌, ℕ, ◌≤◌, ◌⊎◌, ◌++◌, List, [], ◌∷◌, All, Contains, Some, None, length, codes, option_map, unwrap_or, slice_index_or, if◌then◌else◌}
+use Rattle.std.specs.Str.{bytes_eq}
 use Rattle.std.specs.List.{slice_get}
 use Rattle.c_lex.specs.declared.fault.LexKind.{LexKind}
 use Rattle.c_lex.specs.declared.fault.LexKind.TheVariants.{BadByte, Directive, OpenComment, BadChar, BadNumber, TooBig, LeftOut, LongName}
@@ -10,16 +11,20 @@ use Rattle.c_types.specs.declared.fault.TypeKind.TheVariants as kinds
 use Rattle.linker.specs.declared.fault.LinkFault.{LinkFault}
 use Rattle.linker.specs.declared.fault.LinkFault.TheVariants.{Undefined, NoMain, MainType}
 use Rattle.linker.specs.Linking.{refusal}
+use Rattle.outside.specs.Faults.{Rose}
 use Rattle.outside.specs.Told.{Told}
 use Rattle.sym_tables.specs.Table.{Table}
-use Rattle.hlo_cmd.specs.Checking.{AreTypedFiles, EndsAt}
-use Rattle.hlo_cmd.specs.Command.{IsFileWord, status_line}
+use Rattle.hlo_cmd.specs.Checking.{AreTypedFiles, AreTypedTexts, BreakRules, EndsAt, IsOtherFile}
+use Rattle.hlo_cmd.specs.Command.{IsFileWord}
+use Rattle.hlo_cmd.specs.Messages.{place_line, status_line}
 use Rattle.hlo_cmd.specs.declared.check.CheckRefusal.{CheckRefusal}
 use Rattle.hlo_cmd.specs.declared.check.CheckRefusal.TheVariants.{Usage, File, Link}
 use Rattle.hlo_cmd.specs.declared.module_fault.FileFault.{FileFault}
 use Rattle.hlo_cmd.specs.declared.module_fault.FileFault.TheVariants.{NoModule, CannotRead, Memory}
 use Rattle.hlo_cmd.specs.declared.module_fault.ModuleFault.{ModuleFault}
 use Rattle.hlo_cmd.specs.declared.module_fault.ModuleFault.TheVariants.{TooLong, Lexical, Syntax, Typing}
+use Rattle.hlo_cmd.specs.declared.words.PlainCommand.{PlainCommand}
+use Rattle.hlo_cmd.specs.declared.words.PlainCommand.TheVariants as command
 
 -- the words are `check FILE...` with these files: one to 64, of which none begins with `-`
 pub record IsCheck (words files : List (List ℕ)) : Type 0 where
@@ -87,10 +92,6 @@ type_kind kinds.CaseRepeat = codes "CaseRepeat"
 type_kind kinds.ReturnValue = codes "ReturnValue"
 type_kind kinds.NoName = codes "NoName"
 
--- the line of a fault with a place
-abbrev pub place_line : List ℕ → ℕ → List ℕ → List ℕ
-place_line file line kind = codes "hlo: " ++ (file ++ (codes ":" ++ (decimal line ++ (codes ": " ++ (kind ++ 10 ∷ [])))))
-
 -- the line that tells what is wrong with a file
 abbrev pub fault_line : List ℕ → FileFault → List ℕ
 fault_line file (NoModule TooLong) = codes "hlo: " ++ (file ++ (codes ": TooLong" ++ 10 ∷ []))
@@ -130,9 +131,9 @@ pub record StopsAtLink (words : List (List ℕ)) (tells : List ℕ → Told) (Sa
 abbrev pub IsRefused : List (List ℕ) → (List ℕ → Told) → (List ℕ → ℕ) → (List ℕ → ℕ) → (List ℕ → Type 0) → Type 0
 IsRefused words tells before after Said = ((fault : ModuleFault) × Stops words tells before after Said (NoModule fault)) ⊎ StopsAtLink words tells Said
 
--- the statuses of the commands other than `opt`
-abbrev pub IsPlainStatus : ℕ → Type 0
-IsPlainStatus status = (status ≡ 0) ⊎ ((status ≡ 2) ⊎ ((status ≡ 3) ⊎ ((status ≡ 5) ⊎ (status ≡ 10))))
+-- the statuses of `check`
+abbrev pub IsCheckStatus : ℕ → Type 0
+IsCheckStatus status = (status ≡ 0) ⊎ ((status ≡ 2) ⊎ ((status ≡ 3) ⊎ ((status ≡ 5) ⊎ (status ≡ 10))))
 
 -- the statuses whose line names no file
 abbrev pub NamesNoFile : ℕ → Type 0
@@ -162,3 +163,34 @@ abbrev pub IsCheckCause : CheckRefusal → List (List ℕ) → (List ℕ → Tol
 IsCheckCause Usage words tells before after syms = (files : List (List ℕ)) → IsCheck words files → ⊥
 IsCheckCause (File file fault) words tells before after syms = (files : List (List ℕ)) × IsCheck words files × EndsAt tells before after files file.now fault
 IsCheckCause (Link fault) words tells before after syms = IsUnlinked words tells syms fault
+
+-- What `check` promises: what each status says of the words and the files, and what was told; and that, where no count rose
+-- and memory suffices, files that are told are accepted where they are modules that follow the rules and link, and are
+-- refused where one is no module, where they break the rules, or where they don't link.
+pub record CheckPromise (words : List (List ℕ)) (tells : List ℕ → Told) (before after : List ℕ → ℕ) (Said : List ℕ → Type 0) (status : ℕ) : Type 0 where
+  pub known : IsCheckStatus status
+  pub passed : status ≡ 0 → Passes words tells
+  pub usage : (status ≡ 2) ↔ ((files : List (List ℕ)) → IsCheck words files → ⊥)
+  pub refused : status ≡ 3 → IsRefused words tells before after Said
+  pub unread : status ≡ 5 → Stops words tells before after Said CannotRead
+  pub line : NamesNoFile status → Said (status_line status [])
+  pub complete : (files : List (List ℕ)) (syms : Table) → IsCheck words files → AreTypedTexts tells files syms → refusal syms ≡ None
+      → All (λ f. Rose (before f) (after f) → ⊥) files → (status ≡ 0) ⊎ (status ≡ 10)
+  pub refuses : (files : List (List ℕ)) (file : List ℕ) → IsCheck words files → Contains files file → IsOtherFile (tells file)
+      → All (λ f. Rose (before f) (after f) → ⊥) files → (status ≡ 3) ⊎ (status ≡ 10)
+  pub broken : (files : List (List ℕ)) → IsCheck words files → BreakRules tells files
+      → All (λ f. Rose (before f) (after f) → ⊥) files → (status ≡ 3) ⊎ (status ≡ 10)
+  pub unlinked : (files : List (List ℕ)) (syms : Table) → IsCheck words files → AreTypedTexts tells files syms → (refusal syms ≡ None → ⊥)
+      → All (λ f. Rose (before f) (after f) → ⊥) files → (status ≡ 3) ⊎ (status ≡ 10)
+
+-- the first word, or nothing where there is none
+abbrev pub first_word : List (List ℕ) → List ℕ
+first_word words = slice_index_or words 0 []
+
+-- the command of a name
+abbrev pub command_named : List ℕ → PlainCommand
+command_named word = if bytes_eq word (codes "check") then command.Check else (if bytes_eq word (codes "runil") then command.RunIl else command.Other)
+
+-- the command that the first word names
+abbrev pub asked_command : List (List ℕ) → PlainCommand
+asked_command words = command_named (first_word words)

@@ -2,17 +2,16 @@
 ghost use Rattle.std.specs.Prelude.{◌≡◌};
 ghost use Rattle.outside.specs.Faults.{HasCause};
 ghost use Rattle.outside.specs.Taken.{TakesAll};
-ghost use Rattle.hlo_cmd.specs.Command.{Says};
+ghost use Rattle.hlo_cmd.specs.Messages.{Says};
 ghost use Rattle.hlo_cmd.specs.declared.module_fault.FileFault.TheVariants.{NoModule};
-ghost use Rattle.hlo_cmd.specs.Plain.{check_line, fault_line, lexical_kind, link_line, name_of, place_line, syntax_kind, type_kind};
+ghost use Rattle.hlo_cmd.specs.Plain.{check_line, fault_line, lexical_kind, link_line, name_of, syntax_kind, type_kind};
 
 use crate::check::CheckRefusal;
 use crate::module_fault::{FileFault, ModuleFault};
-use crate::pieces::write_three;
+use crate::pieces::{write_place, write_three};
 use c_lex::LexKind;
 use c_parse::ParseKind;
 use c_types::TypeKind;
-use itoa::Buffer;
 use linker::LinkFault;
 use outside::{Failed, Sink, write_all};
 use sym_tables::ProgramSyms;
@@ -51,18 +50,6 @@ fn write_module_fault<E: Sink>(err: &mut E, file: &[u8], fault: ModuleFault) -> 
         ModuleFault::Syntax { line, kind } => write_place(err, file, line, syntax_name(kind)),
         ModuleFault::Typing { line, kind } => write_place(err, file, line, type_name(kind)),
     }
-}
-
-/// Writes the line of a fault that has a place, from the name of its kind with the line feed behind it.
-fn write_place<E: Sink>(err: &mut E, file: &[u8], line: u32, kind: &str) -> Result<(), Failed>
-    ensures bytes { TakesAll (E.taken err.old) (E.taken err.new) result (place_line file.now line kind.now) }
-    ensures cause { HasCause (E.faults err.old) (E.faults err.new) result }
-{
-    let mut buffer = Buffer::new();
-    let number = buffer.format(line);
-    write_three(err, b"hlo: ", file, b":")?;
-    write_three(err, number.as_bytes(), b": ", kind.as_bytes())?;
-    write_all(err, b"\n")
 }
 
 /// Writes the line that tells why the modules don't link.

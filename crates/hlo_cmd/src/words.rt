@@ -2,7 +2,7 @@
 ghost use Rattle.std.specs.Prelude.{◌≡◌, ◌==◌, ℕ, List, not, slice_index, map, MatchOption, string_bytes};
 ghost use Rattle.std.specs.List.{list_all};
 ghost use Rattle.hlo_cmd.specs.Command.{IsRequest, file_word};
-ghost use Rattle.hlo_cmd.specs.Plain.{IsCheck};
+ghost use Rattle.hlo_cmd.specs.Plain.{IsCheck, asked_command, command_named, first_word};
 
 /// The file of the words `opt FILE`, where it doesn't begin with `-`.
 pub(crate) fn requested_file(words: &[String]) -> Option<&str>
@@ -60,6 +60,45 @@ pub(crate) fn second_word(words: &[String]) -> &str
     ensures { result.now ≡ file_word (map string_bytes words.now) }
 {
     match words.get(1) {
+        Some(word) => word.as_str(),
+        None => "",
+    }
+}
+
+/// The commands other than `opt`.
+#[derive(Clone, Copy, PartialEq, Eq)]
+pub(crate) enum PlainCommand {
+    Check,
+    RunIl,
+    /// The word names none of them.
+    Other,
+}
+
+/// The command that the first word names.
+pub(crate) fn asked_command(words: &[String]) -> PlainCommand
+    ensures { result ≡ asked_command (map string_bytes words.now) }
+{
+    command_named(first_word(words))
+}
+
+/// The command of this name.
+fn command_named(word: &str) -> PlainCommand
+    ensures { result ≡ command_named word.now }
+{
+    if word == "check" {
+        PlainCommand::Check
+    } else if word == "runil" {
+        PlainCommand::RunIl
+    } else {
+        PlainCommand::Other
+    }
+}
+
+/// The first word, or nothing where there is none.
+fn first_word(words: &[String]) -> &str
+    ensures { result.now ≡ first_word (map string_bytes words.now) }
+{
+    match words.first() {
         Some(word) => word.as_str(),
         None => "",
     }

@@ -1,7 +1,7 @@
 use Rattle.hlo_cmd.proofs.Going.{all_link, none_breaks, none_passes, no_other_end, no_other_refusal}
-use Rattle.hlo_cmd.proofs.Lines.{refused_by}
-use Rattle.hlo_cmd.specs.Command.{Says}
-use Rattle.hlo_cmd.proofs.plain.plain_command.Goals as goal
+use Rattle.hlo_cmd.proofs.Refusals.{refused_by}
+use Rattle.hlo_cmd.specs.Messages.{Says}
+use Rattle.hlo_cmd.proofs.serve_check.serve_check.Goals as goal
 
 pub returns-in-Ok-clause-refuses : goal.returns-in-Ok-clause-refuses
 returns-in-Ok-clause-refuses g c = λ files file request among other quiet. absurd (none_passes _ _ c.in-Ok.ensures.ok files file request among other)

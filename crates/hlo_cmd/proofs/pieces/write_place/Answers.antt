@@ -1,7 +1,7 @@
 use Rattle.std.proofs.Common.{refl, ◌∙◌}
 use Rattle.std.proofs.lemmas.Result.{err_from_is_err_and}
 use Rattle.hlo_cmd.proofs.Lines.{first_fails, next_fails, last_takes}
-use Rattle.hlo_cmd.proofs.messages.write_place.Goals as goal
+use Rattle.hlo_cmd.proofs.pieces.write_place.Goals as goal
 
 pub returns-in_err-write_three-clause-bytes : goal.returns-in_err-write_three-clause-bytes
 returns-in_err-write_three-clause-bytes g c =

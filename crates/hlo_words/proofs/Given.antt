@@ -1,0 +1,57 @@
+-- What the getters of clap's matches give, by what was read of the words.
+use Rattle.std.proofs.Common.{◌≡◌, ℕ, List, [], ◌∷◌, length, map, get_or, Option, Some, None, IfSome, IfNone, refl, sym, ◌∙◌, ap, arith}
+use Rattle.std.specs.Prelude.{option_map, codes}
+use Rattle.std.specs.Borrow.{Bor}
+use Rattle.std.proofs.lemmas.List.{length-map}
+use Rattle.clap.specs.Matches.{first_value, matched_of, raw_values}
+use Rattle.clap.specs.Walk.{Row, Text, all_of, first_of, rows_of}
+use Rattle.clap.specs.declared.parser.matches.Found.{Found}
+use Rattle.clap.proofs.WalkLemmas.{first_value-rows, raw_values-rows}
+use Rattle.hlo_words.specs.Settings.{HasTurns, IsNumberIn}
+
+abbrev pub given_texts : List (Bor Text) → List Text
+given_texts = map (λ s. s.now)
+
+some_same : {A : Type 0} {x y : A} → Some x ≡ Some y → x ≡ y
+some_same e = cc
+
+-- the files that were given, as the call gives them
+abbrev pub Gives : Found → Option (Bor (List (Bor Text))) → Type 0
+Gives f r = option_map (λ s. map (λ v. v.now) s.now) r ≡ option_map raw_values (matched_of f (codes "files"))
+
+module _ (f : Found) (r : Option (Bor (List (Bor Text)))) (gives : Gives f r) where
+  pub given : (vs : Bor (List (Bor Text))) → r ≡ Some vs → all_of (codes "files") (rows_of f) ≡ Some (given_texts vs.now)
+  given vs is = sym (raw_values-rows f (codes "files")) ∙ sym gives ∙ ap (option_map (λ s. map (λ v. v.now) s.now)) is
+
+  pub not_given : (files : List Text) → r ≡ None → all_of (codes "files") (rows_of f) ≡ Some files → ⊥
+  not_given files is e =
+      let none : all_of (codes "files") (rows_of f) ≡ None = sym (raw_values-rows f (codes "files")) ∙ sym gives ∙ ap (option_map (λ s. map (λ v. v.now) s.now)) is in
+      let bad : None ≡ Some files = sym none ∙ e in
+      cc
+
+  -- as many as were given
+  pub as_many : (vs : Bor (List (Bor Text))) → r ≡ Some vs → (files : List Text) → all_of (codes "files") (rows_of f) ≡ Some files → length files ≡ length vs.now
+  as_many vs is files e = ap length (some_same (sym e ∙ given vs is)) ∙ length-map vs.now (λ v. v.now)
+
+-- a list of one
+pub only_text : (vs : List (Bor Text)) (d : Bor Text) → length vs ≡ 1 → given_texts vs ≡ (get_or vs 0 d).now ∷ []
+only_text [] d one = absurd (omega (arith, one))
+only_text (x ∷ []) d one = refl
+only_text (x ∷ y ∷ vs) d one = absurd (omega (arith, one))
+
+pub first_given : (f : Found) (o : Option (Bor Text)) → option_map (λ s. s.now) o ≡ first_value f (codes "turns") → first_of (codes "turns") (rows_of f) ≡ option_map (λ s. s.now) o
+first_given f o e = sym (e ∙ first_value-rows f (codes "turns"))
+
+module _ (rows : List Row) (text : Text) (is : first_of (codes "turns") rows ≡ Some text) where
+  -- the text that was given is in the range
+  pub found_turns : (o : Option ℕ) → IfSome o (IsNumberIn 0 1000000000000 text) → IfSome o (HasTurns rows)
+  found_turns None h = tt
+  found_turns (Some n) h = rw is h
+
+  -- and it isn't
+  pub no_turns : (o : Option ℕ) → IfNone o ((n : ℕ) → IsNumberIn 0 1000000000000 text n → ⊥) → IfNone o ((n : ℕ) → HasTurns rows n → ⊥)
+  no_turns None h = λ n turns. h n (rw is at turns)
+  no_turns (Some n) h = tt
+
+pub turns_left_out : (rows : List Row) → first_of (codes "turns") rows ≡ None → HasTurns rows 1000000000
+turns_left_out rows e = rw e refl

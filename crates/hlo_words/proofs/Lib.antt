@@ -1,0 +1,4 @@
+mod Given
+mod Numbers
+pub mod Same
+mod Samples

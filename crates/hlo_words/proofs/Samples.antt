@@ -1,0 +1,44 @@
+-- What the words of the commands say, at examples.
+use Rattle.std.proofs.Common.{◌≡◌, refl, sym, arith, [], ◌∷◌, codes}
+use Rattle.clap.specs.Faults.{fault_of}
+use Rattle.clap.specs.Simple.{matches_of}
+use Rattle.std.proofs.lemmas.Fmt.{decimal_digit}
+use Rattle.clap.proofs.OnLiterals.{clap_on_literals}
+use Rattle.clap.specs.declared.error.kind.ErrorKind.TheVariants.{ArgumentConflict, DisplayHelp, UnknownArgument}
+use Rattle.hlo_words.specs.Lines.{files_app, turns_app}
+use Rattle.hlo_words.specs.Settings.{IsRunSettings, IsRunIlSettings}
+
+-- files in their order, one of them behind `--`, and the turns between them
+
+mixed_says : IsRunSettings (codes "run" ∷ codes "a.c" ∷ codes "--turns" ∷ codes "5" ∷ codes "--" ∷ codes "-b" ∷ [])
+    (record { turns = 5; files = codes "a.c" ∷ codes "-b" ∷ [] })
+unfolding clap_on_literals
+mixed_says = record {
+  rows = matches_of (turns_app (codes "run")) (codes "run" ∷ codes "a.c" ∷ codes "--turns" ∷ codes "5" ∷ codes "--" ∷ codes "-b" ∷ []);
+  read = record { taken = refl; found = refl };
+  turns = record { spelled = sym (decimal_digit 5 (omega arith)); least = omega arith; most = omega arith };
+  files = record { given = refl; some = omega arith; most = omega arith };
+}
+
+-- no turns are given
+plain_says : IsRunIlSettings (codes "runil" ∷ codes "w.il" ∷ []) (record { turns = 1000000000; file = codes "w.il" })
+unfolding clap_on_literals
+plain_says = record {
+  rows = matches_of (turns_app (codes "runil")) (codes "runil" ∷ codes "w.il" ∷ []);
+  read = record { taken = refl; found = refl };
+  turns = refl;
+  file = refl;
+}
+
+-- an option that is given twice, one of another command, and help
+twice_refused : fault_of (turns_app (codes "run")) (codes "run" ∷ codes "--turns=1" ∷ codes "--turns=1" ∷ codes "a.c" ∷ []) ≡ ArgumentConflict ∷ []
+unfolding clap_on_literals
+twice_refused = refl
+
+other_refused : fault_of (files_app (codes "check")) (codes "check" ∷ codes "--turns" ∷ codes "1" ∷ codes "a.c" ∷ []) ≡ UnknownArgument ∷ []
+unfolding clap_on_literals
+other_refused = refl
+
+help_refused : fault_of (files_app (codes "check")) (codes "check" ∷ codes "a.c" ∷ codes "--help" ∷ []) ≡ DisplayHelp ∷ []
+unfolding clap_on_literals
+help_refused = refl

@@ -1,0 +1,31 @@
+-- The command lines, and what clap's own definitions read of their words.
+use Rattle.std.specs.Prelude.{◌≡◌, List, [], Some, codes}
+use Rattle.clap.specs.Walk.{Row, Rule, Text}
+use Rattle.clap.specs.Simple.{App, matches_of, new_rule, new_app, with_rule}
+use Rattle.clap.specs.Faults.{fault_of}
+use Rattle.clap.specs.declared.builder.action.ArgAction.TheVariants.{Set, Append}
+
+-- `--turns N`
+abbrev pub turns_rule : Rule
+turns_rule = record (new_rule (codes "turns")) { long = Some (codes "turns"); action = Some Set }
+
+-- `FILE...`
+abbrev pub files_rule : Rule
+files_rule = record (new_rule (codes "files")) { action = Some Append }
+
+-- a command with files alone
+abbrev pub files_app : Text → App
+files_app name = with_rule (new_app name) files_rule
+
+-- a command with a number of turns, and files
+abbrev pub turns_app : Text → App
+turns_app name = with_rule (with_rule (new_app name) turns_rule) files_rule
+
+-- clap takes the words, and finds this in them
+pub record HasRead (app : App) (words : List Text) (rows : List Row) : Type 0 where
+  pub taken : fault_of app words ≡ []
+  pub found : rows ≡ matches_of app words
+
+-- clap refuses the words
+abbrev pub IsRefused : App → List Text → Type 0
+IsRefused app words = fault_of app words ≡ [] → ⊥

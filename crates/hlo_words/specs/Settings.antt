@@ -1,0 +1,62 @@
+-- What the words of each command say.
+use Rattle.std.specs.Prelude.{◌≡◌, ◌≤◌, ◌==◌, ◌||◌, ℕ, Bool, false, List, [], ◌∷◌, Option, Some, None, length, codes}
+use Rattle.std.specs.Fmt.{decimal}
+use Rattle.clap.specs.Walk.{Row, Text, all_of, first_of}
+use Rattle.hlo_words.specs.Lines.{HasRead, files_app, turns_app}
+use Rattle.hlo_words.specs.declared.settings.CheckSettings.{CheckSettings}
+use Rattle.hlo_words.specs.declared.settings.OptSettings.{OptSettings}
+use Rattle.hlo_words.specs.declared.settings.RunIlSettings.{RunIlSettings}
+use Rattle.hlo_words.specs.declared.settings.RunSettings.{RunSettings}
+
+-- the text is this number of the range in decimal digits, without a sign and a leading zero
+pub record IsNumberIn (low high : ℕ) (text : Text) (n : ℕ) : Type 0 where
+  pub spelled : text ≡ decimal n
+  pub least : low ≤ n
+  pub most : n ≤ high
+
+-- a `+`, or a `0` before further bytes, stands first
+abbrev pub is_padded_text : Text → Bool
+is_padded_text [] = false
+is_padded_text (b ∷ []) = b == 43
+is_padded_text (b ∷ c ∷ bs) = (b == 43) || (b == 48)
+
+-- the value of an option with a number: the default where it isn't given
+abbrev pub IsValue : ℕ → ℕ → ℕ → Option Text → ℕ → Type 0
+IsValue default low high None n = n ≡ default
+IsValue default low high (Some text) n = IsNumberIn low high text n
+
+-- the turns: 0 to 1000000000000, and 1000000000 where they aren't given
+abbrev pub HasTurns : List Row → ℕ → Type 0
+HasTurns rows n = IsValue 1000000000 0 1000000000000 (first_of (codes "turns") rows) n
+
+-- the files, in the order of the words: one to 64
+pub record AreFiles (rows : List Row) (files : List Text) : Type 0 where
+  pub given : all_of (codes "files") rows ≡ Some files
+  pub some : 1 ≤ length files
+  pub most : length files ≤ 64
+
+-- the words of `opt` say this
+pub record IsOptSettings (words : List Text) (s : OptSettings) : Type 0 where
+  pub rows : List Row
+  pub read : HasRead (files_app (codes "opt")) words rows
+  pub files : AreFiles rows s.files
+
+-- the words of `check` say this
+pub record IsCheckSettings (words : List Text) (s : CheckSettings) : Type 0 where
+  pub rows : List Row
+  pub read : HasRead (files_app (codes "check")) words rows
+  pub files : AreFiles rows s.files
+
+-- the words of `run` say this
+pub record IsRunSettings (words : List Text) (s : RunSettings) : Type 0 where
+  pub rows : List Row
+  pub read : HasRead (turns_app (codes "run")) words rows
+  pub turns : HasTurns rows s.turns
+  pub files : AreFiles rows s.files
+
+-- the words of `runil` say this: there is one file
+pub record IsRunIlSettings (words : List Text) (s : RunIlSettings) : Type 0 where
+  pub rows : List Row
+  pub read : HasRead (turns_app (codes "runil")) words rows
+  pub turns : HasTurns rows s.turns
+  pub file : all_of (codes "files") rows ≡ Some (s.file ∷ [])

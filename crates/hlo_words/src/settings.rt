@@ -1,0 +1,67 @@
+//! What the words of a command say.
+use crate::file_name::FileName;
+use hlo_num::Seq;
+use std::alloc::{AllocError, AllocFailed};
+
+/// What `opt` is to do.
+#[derive(Drop)]
+pub struct OptSettings {
+    /// The modules, in the order of the words.
+    pub files: Seq<FileName>,
+}
+
+/// What `check` is to do.
+#[derive(Drop)]
+pub struct CheckSettings {
+    /// The modules, in the order of the words.
+    pub files: Seq<FileName>,
+}
+
+/// What `run` is to do.
+#[derive(Drop)]
+pub struct RunSettings {
+    /// How many turns the program may take.
+    pub turns: u64,
+    /// The modules, in the order of the words.
+    pub files: Seq<FileName>,
+}
+
+/// What `runil` is to do.
+#[derive(Drop)]
+pub struct RunIlSettings {
+    /// How many turns the program may take.
+    pub turns: u64,
+    /// The file with the program's text.
+    pub file: FileName,
+}
+
+/// Why words give no settings.
+#[derive(Clone, Copy, Debug, PartialEq, Eq)]
+pub enum WordsFault {
+    /// They are refused, a number is outside its range, or there are no files or too many.
+    Usage,
+    /// Memory ran out.
+    Memory,
+}
+
+impl From<AllocError> for WordsFault {
+    ghost use Rattle.std.specs.Prelude.{◌≡◌};
+    ghost use Rattle.hlo_words.specs.declared.settings.WordsFault.TheVariants.{Memory};
+
+    ghost from_gives = { λ _ e. e ≡ Memory };
+
+    fn from(_error: AllocError) -> WordsFault {
+        WordsFault::Memory
+    }
+}
+
+impl<T: Drop> From<AllocFailed<T>> for WordsFault {
+    ghost use Rattle.std.specs.Prelude.{◌≡◌};
+    ghost use Rattle.hlo_words.specs.declared.settings.WordsFault.TheVariants.{Memory};
+
+    ghost from_gives = { λ _ e. e ≡ Memory };
+
+    fn from(_error: AllocFailed<T>) -> WordsFault {
+        WordsFault::Memory
+    }
+}
