@@ -1,12 +1,15 @@
 //! Why a function isn't lowered.
 use std::alloc::{AllocError, AllocFailed};
+use thiserror::Error;
 
 /// Why a function isn't lowered.
-#[derive(Clone, Copy, Debug, PartialEq, Eq)]
+#[derive(Clone, Copy, Debug, Drop, PartialEq, Eq, Error)]
 pub enum LowerFault {
     /// Its routine passes a limit of the language.
+    #[error("the routine passes a limit of the language")]
     TooLarge,
     /// There is no memory left.
+    #[error("out of memory")]
     Memory,
 }
 

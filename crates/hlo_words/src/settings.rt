@@ -2,6 +2,7 @@
 use crate::file_name::FileName;
 use hlo_num::Seq;
 use std::alloc::{AllocError, AllocFailed};
+use thiserror::Error;
 
 /// What `opt` is to do.
 #[derive(Drop)]
@@ -36,11 +37,13 @@ pub struct RunIlSettings {
 }
 
 /// Why words give no settings.
-#[derive(Clone, Copy, Debug, PartialEq, Eq)]
+#[derive(Clone, Copy, Debug, Drop, PartialEq, Eq, Error)]
 pub enum WordsFault {
     /// They are refused, a number is outside its range, or there are no files or too many.
+    #[error("the words are no command")]
     Usage,
     /// Memory ran out.
+    #[error("out of memory")]
     Memory,
 }
 
