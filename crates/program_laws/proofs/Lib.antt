@@ -8,6 +8,7 @@ mod Linked
 mod Links
 mod Modules
 mod Objects
+mod Samples
 mod Statements
 mod States
 mod Tables
