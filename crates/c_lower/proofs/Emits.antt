@@ -1,13 +1,13 @@
 -- What a piece of a draft puts in front of the code that follows.
-use Rattle.std.proofs.Common.{◌≡◌, ℕ, zero, suc, ◌+◌, ◌<◌, ◌≤◌, List, [], ◌∷◌, ◌++◌, map, length, get_or, refl, sym, ap, ◌∙◌, subst, arith, Bool, true, false, append_assoc, append-nil, length-append, length-set, get_or-set_same, get_or-set_other}
-use Rattle.std.specs.Prelude.{slice_index, slice_set}
+use Rattle.std.proofs.Common.{◌≡◌, ℕ, zero, suc, ◌<◌, ◌≤◌, List, [], ◌∷◌, ◌++◌, map, length, get_or, refl, sym, ap, ◌∙◌, arith, Bool, true, false, append_assoc, append-nil, length-append, length-set, get_or-set_same, get_or-set_other}
+use Rattle.std.specs.Prelude.{slice_set}
 use Rattle.il_core.specs.declared.instr.Block.{Block}
 use Rattle.il_core.specs.declared.instr.Instr.{Instr}
 use Rattle.il_core.specs.declared.instr.End.{End}
 use Rattle.il_core.specs.declared.instr.End.TheVariants as ends
 use Rattle.lower_laws.specs.Code as code
 use Rattle.lower_laws.specs.Code.{Code, Numbers}
-use Rattle.c_lower.specs.Drafts.{Draft, write, finish, next_label, mark, reach, declare, begin_block, branch}
+use Rattle.c_lower.specs.Drafts.{Draft, write, finish, next_label, mark, reach, begin_block, branch}
 use Rattle.c_lower.specs.Settled.{settle, settled}
 
 -- the blocks of a draft in which each label has the block that f gives, in front of code

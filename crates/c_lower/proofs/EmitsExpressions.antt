@@ -1,5 +1,5 @@
 -- The draft of an expression is its code.
-use Rattle.std.proofs.Common.{◌≡◌, ℕ, suc, ◌<◌, ◌≤◌, List, length, get_or, sym, ap, ◌∙◌, arith, Bool, true, false, Option, Some, None, refl}
+use Rattle.std.proofs.Common.{◌≡◌, ℕ, suc, ◌<◌, ◌≤◌, List, length, get_or, sym, ap, ◌∙◌, arith, Bool, true, false, Option, Some, None}
 use Rattle.std.specs.Prelude.{if◌then◌else◌}
 use Rattle.hlo_num.specs.declared.word.Ty.{Ty}
 use Rattle.hlo_num.specs.declared.word.Op.TheVariants as op
@@ -22,8 +22,8 @@ use Rattle.lower_laws.specs.Bound.{Scope, IsExpr, IsPlace, AreArguments}
 use Rattle.lower_laws.specs.Code.{Code, Numbers, put, close, label, past_reg, past_instr, past_end, past_new, past_label, word}
 use Rattle.lower_laws.specs.Operations.{load, store, conv_past, conv_result, conv_code, operation, unary_code, update_code, update_result}
 use Rattle.lower_laws.specs.Expressions as laws
-use Rattle.c_lower.specs.Drafts.{Draft, Fixed, layout_with, layout_now, write, finish, next_label, mark, reach, begin_block}
-use Rattle.c_lower.specs.Expressions.{converted, unary, loaded, stored, fetched, updated, arm, asked, answered, stepped, chosen, first_arm, last_arm, written, placed, arguments}
+use Rattle.c_lower.specs.Drafts.{Draft, Fixed, layout_with, layout_now, write, next_label, mark}
+use Rattle.c_lower.specs.Expressions.{converted, unary, loaded, stored, fetched, updated, arm, asked, stepped, written, placed, arguments}
 use Rattle.c_lower.proofs.Emits.{Agrees, Emits, joined, none, one_then, puts, closes, marks, known, hole, jumps, begins, branches, still}
 
 -- the same code, where f and r are right

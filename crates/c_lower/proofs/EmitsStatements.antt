@@ -1,31 +1,25 @@
 -- The draft of a statement is its code.
-use Rattle.std.proofs.Common.{◌≡◌, ℕ, zero, suc, ◌+◌, ◌<◌, ◌≤◌, List, [], ◌∷◌, ◌++◌, length, get_or, sym, ap, ◌∙◌, subst, arith, Bool, true, false, Option, Some, None, refl, append_assoc, length-append}
-use Rattle.std.specs.Prelude.{if◌then◌else◌}
-use Rattle.hlo_num.specs.declared.word.Op.TheVariants as op
-use Rattle.il_core.specs.declared.instr.Instr.TheVariants as instr
+use Rattle.std.proofs.Common.{ℕ, suc, ◌<◌, ◌≤◌, List, [], ◌∷◌, ◌++◌, length, sym, ap, ◌∙◌, subst, arith, Bool, true, false, Option, Some, None, refl, append_assoc, length-append}
 use Rattle.il_core.specs.declared.instr.End.{End}
 use Rattle.il_core.specs.declared.instr.End.TheVariants as ends
 use Rattle.c_typed.specs.declared.expression.Variable.TheVariants as variables
-use Rattle.c_typed.specs.declared.statement.Label.{Label}
-use Rattle.c_typed.specs.declared.statement.Label.TheVariants as labels
 use Rattle.c_typed.specs.Expressions.{Whole}
 use Rattle.c_typed.specs.Statements.{is_default}
 use Rattle.c_typed.specs.Trees as tree
 use Rattle.c_typed.specs.Trees.{Expr, Stmt, Sections}
-use Rattle.lower_laws.specs.Bound.{Scope, IsExpr, IsStmt, AreSections, IsOptional, IsOptionalValue, behind, declared as declared_scope, locals_behind, sections_behind}
-use Rattle.lower_laws.specs.Code.{Code, Numbers, put, close, label, past_end, past_new, past_label, word}
+use Rattle.lower_laws.specs.Bound.{Scope, IsStmt, AreSections, IsOptional, IsOptionalValue, behind, declared as declared_scope, locals_behind, sections_behind}
+use Rattle.lower_laws.specs.Code.{Code, Numbers, close, label, past_end, past_label}
 use Rattle.lower_laws.specs.Expressions as exprs
 use Rattle.lower_laws.specs.Functions.{declarators, section_declarators}
-use Rattle.lower_laws.specs.Layouts.{Layout}
 use Rattle.lower_laws.specs.Statements as laws
 use Rattle.lower_laws.specs.Switches as switches
-use Rattle.c_lower.specs.Drafts.{Draft, Fixed, layout_with, write, finish, next_label, mark, reach, declare, begin_block, branch}
-use Rattle.c_lower.specs.Expressions.{stored, written}
+use Rattle.c_lower.specs.Drafts.{Draft, Fixed, layout_with, finish, next_label, mark, reach, declare, begin_block}
+use Rattle.c_lower.specs.Expressions.{written}
 use Rattle.c_lower.specs.Settled.{settle}
 use Rattle.c_lower.specs.Statements.{arrived, turned, looped, optional, condition, no_value, returned, declared, stated, sections, cases_marked, cases_tested, default_label, labels_at, labels_arrived}
 use Rattle.lower_laws.specs.Statements.{section_block, tests_code}
 use Rattle.c_lower.proofs.EmitsSwitches.{cases_at, labels_up, cases_up, marked_cases, cases_size, CasesAt, cases_by, cases_tests, cases_right, default_right, Right, Fills, fills_none, fills_then, labels_fill}
-use Rattle.c_lower.proofs.Emits.{Grown, Agrees, Emits, joined, grown_none, grown_one, grown_then, none, one_then, puts, closes, marks, known, hole, jumps, begins, branches, still}
+use Rattle.c_lower.proofs.Emits.{Grown, Agrees, Emits, joined, grown_none, grown_one, grown_then, none, one_then, puts, closes, marks, known, hole, begins, branches, still}
 use Rattle.c_lower.proofs.EmitsExpressions.{emits_expr, stores}
 
 -- a declarator gives the next local its register

@@ -1,6 +1,6 @@
 -- The labels and tests of a switch, whose labels stand in a row and are reached in the sections.
-use Rattle.std.proofs.Common.{◌≡◌, ℕ, zero, suc, ◌+◌, ◌<◌, ◌≤◌, ◌⊎◌, inl, inr, List, [], ◌∷◌, ◌++◌, map, length, get_or, sym, ap, ◌∙◌, arith, Bool, true, false, Option, Some, None, refl, length-append, length-set, get_or-set_same, get_or-set_other}
-use Rattle.std.specs.Prelude.{if◌then◌else◌, slice_set}
+use Rattle.std.proofs.Common.{◌≡◌, ℕ, suc, ◌<◌, ◌≤◌, List, [], ◌∷◌, ◌++◌, length, get_or, ap, ◌∙◌, arith, Bool, true, refl, length-append, length-set, get_or-set_same, get_or-set_other}
+use Rattle.std.specs.Prelude.{slice_set}
 use Rattle.hlo_num.specs.declared.word.Op.TheVariants as op
 use Rattle.il_core.specs.declared.instr.Instr.TheVariants as instr
 use Rattle.il_core.specs.declared.instr.End.TheVariants as ends
@@ -9,13 +9,13 @@ use Rattle.c_typed.specs.declared.statement.Label.TheVariants as labels
 use Rattle.c_typed.specs.Statements.{is_default}
 use Rattle.c_typed.specs.Trees as tree
 use Rattle.c_typed.specs.Trees.{Sections}
-use Rattle.lower_laws.specs.Code.{Code, Numbers, put, close, label, past_label}
+use Rattle.lower_laws.specs.Code.{Code, Numbers, put, close, past_label}
 use Rattle.lower_laws.specs.Layouts.{Outline, Layout}
 use Rattle.lower_laws.specs.Statements.{open_behind, stmt_past, section_block, tests_code}
 use Rattle.lower_laws.specs.Switches.{labels_past, labels_open, labels_code, label_block, test_past, label_tests_past, label_tests}
-use Rattle.c_lower.specs.Drafts.{Draft, write, finish, next_label, mark, reach, begin_block}
+use Rattle.c_lower.specs.Drafts.{Draft, next_label, mark, reach}
 use Rattle.c_lower.specs.Statements.{arrived, labels_at, labels_marked, cases_marked, default_in, or_label, default_label, case_tested, labels_tested, cases_tested, labels_arrived}
-use Rattle.c_lower.proofs.Emits.{Grown, Agrees, Emits, joined, grown_none, grown_then, grown_one, none, one_then, puts, closes, known, begins}
+use Rattle.c_lower.proofs.Emits.{Grown, Emits, joined, grown_none, grown_then, grown_one, none, one_then, puts, closes, known, begins}
 
 -- the label behind those of all sections
 abbrev pub cases_at : Sections → ℕ → ℕ

@@ -1,6 +1,6 @@
 -- The routine that the code makes, and the limits that it passes.
-use Rattle.std.proofs.Common.{◌≡◌, ℕ, ◌<◌, ◌≤◌, List, Bool, true, false, map, length, sym, ap, ◌∙◌, subst, arith, refl}
-use Rattle.std.specs.Prelude.{◌↔◌, IsTrue, Option, Some, None, Result, Ok, Err, IfOk, IfErr, is_some, nat_le, slice_index, sum}
+use Rattle.std.proofs.Common.{◌≡◌, ℕ, ◌<◌, ◌≤◌, List, Bool, true, false, map, length, sym, ap, ◌∙◌, subst, arith}
+use Rattle.std.specs.Prelude.{◌↔◌, IsTrue, Option, Some, None, Result, IfOk, IfErr, is_some, nat_le, slice_index, sum}
 use Rattle.std.proofs.lemmas.Bool.Decides.{nat_tests}
 use Rattle.std.specs.List.{AllByRecursion}
 use Rattle.il_core.specs.declared.instr.Block.{Block}
@@ -13,8 +13,8 @@ use Rattle.sym_tables.specs.Table.{Table}
 use Rattle.std.specs.Option.{option_map}
 use Rattle.c_typed.specs.Trees.{Function}
 use Rattle.lower_laws.specs.Bound.{IsBound}
-use Rattle.lower_laws.specs.Code.{Numbers, blocks_of}
-use Rattle.lower_laws.specs.Functions.{array_lengths, body_code, last_numbers, layout_of, lowered}
+use Rattle.lower_laws.specs.Code.{Numbers}
+use Rattle.lower_laws.specs.Functions.{array_lengths, last_numbers, lowered}
 use Rattle.lower_laws.specs.Laws.{SizesAreNumbers}
 use Rattle.c_lower.specs.declared.fault.LowerFault.{LowerFault}
 use Rattle.c_lower.specs.declared.fault.LowerFault.TheVariants as faults

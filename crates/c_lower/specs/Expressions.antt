@@ -1,18 +1,16 @@
 -- The drafts of expressions, with the numbers before them.
-use Rattle.std.specs.Prelude.{ℕ, suc, List, Bool, true, false, Option, Some, None, if◌then◌else◌}
+use Rattle.std.specs.Prelude.{ℕ, suc, List, Bool, true, Option, Some, None, if◌then◌else◌}
 use Rattle.hlo_num.specs.declared.word.Ty.{Ty}
 use Rattle.hlo_num.specs.declared.word.Word.{Word}
 use Rattle.hlo_num.specs.declared.word.Op.TheVariants as op
 use Rattle.hlo_num.specs.Words.{is_narrow, promote}
 use Rattle.il_core.specs.declared.instr.Instr.TheVariants as instr
-use Rattle.il_core.specs.declared.instr.End.{End}
 use Rattle.il_core.specs.declared.instr.End.TheVariants as ends
 use Rattle.c_tree.specs.declared.expression.UnaryOp.{UnaryOp}
 use Rattle.c_tree.specs.declared.expression.UnaryOp.TheVariants.{Plus, Minus, Complement, Not}
 use Rattle.c_typed.specs.declared.expression.BinaryOp.{BinaryOp}
 use Rattle.c_typed.specs.declared.expression.BinaryOp.TheVariants as binary
 use Rattle.c_typed.specs.declared.expression.LogicalOp.{LogicalOp}
-use Rattle.c_typed.specs.declared.expression.LogicalOp.TheVariants as logical
 use Rattle.c_typed.specs.Operators.{step_op}
 use Rattle.c_typed.specs.Expressions.{Spot}
 use Rattle.c_typed.specs.Trees as tree

@@ -1,5 +1,5 @@
 -- The routine of a function, with the profile's counts of its program name, and its draft.
-use Rattle.std.specs.Prelude.{◌≡◌, ◌+◌, suc, ℕ, Bool, true, List, [], ◌∷◌, length, Option, Some, None, slice_get, if◌then◌else◌}
+use Rattle.std.specs.Prelude.{◌+◌, ℕ, true, List, [], ◌∷◌, length, Option, Some, None, slice_get}
 use Rattle.il_core.specs.declared.instr.End.TheVariants as ends
 use Rattle.il_core.specs.Routine.{RoutineParts}
 use Rattle.profile.specs.Counts.{Counts}

@@ -1,5 +1,5 @@
 -- What the code has of what is fixed for a function, and of a spot.
-use Rattle.std.specs.Prelude.{ℕ, slice_get, slice_index_or}
+use Rattle.std.specs.Prelude.{slice_get, slice_index_or}
 use Rattle.profile.specs.Counts.{counts_of}
 use Rattle.c_typed.specs.Expressions as typed
 use Rattle.lower_laws.specs.Functions.{is_some_array}

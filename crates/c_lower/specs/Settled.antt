@@ -1,5 +1,5 @@
 -- A draft in which labels are blocks.
-use Rattle.std.specs.Prelude.{ℕ, List, map, slice_index}
+use Rattle.std.specs.Prelude.{ℕ}
 use Rattle.il_core.specs.declared.instr.Block.{Block}
 use Rattle.il_core.specs.declared.instr.End.{End}
 use Rattle.il_core.specs.declared.instr.End.TheVariants as ends

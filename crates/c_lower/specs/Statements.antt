@@ -1,5 +1,5 @@
 -- The drafts of statements, with the numbers before them. Ends p and q are what `break` and `continue` are.
-use Rattle.std.specs.Prelude.{ℕ, suc, Bool, true, false, List, [], ◌∷◌, Option, Some, None, if◌then◌else◌}
+use Rattle.std.specs.Prelude.{ℕ, suc, Bool, true, false, List, [], ◌∷◌, Option, Some, None}
 use Rattle.hlo_num.specs.declared.word.Word.{Word}
 use Rattle.hlo_num.specs.declared.word.Op.TheVariants as op
 use Rattle.il_core.specs.declared.instr.Instr.TheVariants as instr

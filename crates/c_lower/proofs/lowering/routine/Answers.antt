@@ -1,8 +1,8 @@
-use Rattle.std.proofs.Common.{◌≡◌, ◌≤◌, ℕ, List, ap, sym, ◌∙◌, subst, length, arith}
-use Rattle.std.specs.Prelude.{is_some, slice_index, sum, map}
+use Rattle.std.proofs.Common.{◌≡◌, ◌≤◌, ℕ, List, ap, sym, ◌∙◌, subst, length}
+use Rattle.std.specs.Prelude.{sum}
 use Rattle.il_core.specs.Limits.{max_arrays, max_elements}
 use Rattle.c_typed.specs.Views.{function_of}
-use Rattle.lower_laws.specs.Functions.{last_numbers, lowered}
+use Rattle.lower_laws.specs.Functions.{lowered}
 use Rattle.c_lower.specs.Drafts.{Fixed}
 use Rattle.c_lower.specs.Settings.{fixed_of}
 use Rattle.c_lower.proofs.Routines.{numbers_are, blocks_made, past_registers, past_size, past_instrs, kept, within, is_lowered}
