@@ -1,11 +1,9 @@
 -- Each event of one pool keeps the loader whole.
-use Rattle.std.proofs.Common.{◌≡◌, ◌≢◌, ℕ, ◌+◌, ◌*◌, ◌<◌, ◌≤◌, Bool, true, false, true≢false, cond, nat_eq, List, [], ◌∷◌, length, Option, Some, None, IsSome, Result, Ok, Err, refl, sym, ap, subst, ◌∙◌}
-use Rattle.std.specs.Prelude.{is_none, is_some, IfOk}
-use Rattle.std.specs.Map.{lookup}
+use Rattle.std.proofs.Common.{◌≡◌, ℕ, ◌*◌, Bool, true, List, Option, None, Result, Ok, Err, refl}
+use Rattle.std.specs.Prelude.{IfOk}
 use Rattle.naim_core.specs.Rows
-use Rattle.naim_core.specs.State.{Core, pool_at}
+use Rattle.naim_core.specs.State.{Core}
 use Rattle.naim_core.specs.declared.event.Event.TheVariants as event
-use Rattle.naim_core.specs.declared.pool.Pool.{Pool}
 use Rattle.naim_core.specs.declared.pool.Stage.{Stage}
 use Rattle.naim_core.specs.declared.pool.Stage.TheVariants as stage
 use Rattle.naim_core.proofs.Effects.{is_shared, pin_read_did}
@@ -14,7 +12,6 @@ use Rattle.naim_loader.specs.declared.home.Home.{Home}
 use Rattle.naim_loader.specs.declared.table.Entry.{Entry}
 use Rattle.naim_loader.specs.declared.table.Lying.{Lying}
 use Rattle.naim_loader.specs.declared.table.Lying.TheVariants as lying
-use Rattle.std.specs.Arc.{arc_value}
 use Rattle.std.specs.declared.alloc.Global.{Global}
 use Rattle.std.specs.declared.sync.Arc.{Arc}
 use Rattle.naim_loader.specs.Counting.{Stepped}

@@ -1,6 +1,6 @@
 -- A new pool, and a failure.
-use Rattle.std.proofs.Common.{◌≡◌, ◌≢◌, ℕ, ◌+◌, ◌*◌, ◌<◌, ◌≤◌, ◌^◌, Bool, true, false, true≢false, cond, nat_eq, List, [], ◌∷◌, length, Option, Some, None, IsSome, Result, Ok, Err, refl, sym, ap, subst, arith, ◌∙◌, ◌⊎◌, inl, inr}
-use Rattle.std.specs.Prelude.{is_none, is_some, MatchResult, option_map, ◌&&◌, ◌||◌, nat_lt, nat_le, not}
+use Rattle.std.proofs.Common.{◌≡◌, ℕ, ◌+◌, ◌*◌, ◌<◌, ◌≤◌, ◌^◌, Bool, true, false, cond, nat_eq, List, [], ◌∷◌, length, Option, Some, None, IsSome, Result, Ok, Err, refl, sym, ap, subst, arith, ◌∙◌, ◌⊎◌, inl, inr}
+use Rattle.std.specs.Prelude.{is_some, MatchResult, option_map, ◌&&◌, ◌||◌, nat_lt, nat_le, not}
 use Rattle.std.specs.Cmp.{nat_eq_equiv}
 use Rattle.std.specs.Option.{option_map_or}
 use Rattle.std.specs.Map.{keys_of, lookup}
@@ -12,7 +12,7 @@ use Rattle.std.proofs.lemmas.Option.{same_Some}
 use Rattle.naim_core.specs.Charges.{under_sum}
 use Rattle.naim_core.specs.Rows
 use Rattle.naim_core.specs.Sound.{IsSound, RecordsApart}
-use Rattle.naim_core.specs.State.{Core, pool_at, is_in}
+use Rattle.naim_core.specs.State.{Core, pool_at}
 use Rattle.naim_core.specs.Steps.{Follows, permit, then_state, step_of, failed}
 use Rattle.naim_core.specs.declared.event.Event.TheVariants as event
 use Rattle.naim_core.specs.declared.event.Failure.{Failure}
@@ -21,7 +21,7 @@ use Rattle.naim_core.specs.declared.event.Form.TheVariants as form
 use Rattle.naim_core.specs.declared.event.Refusal.{Refusal}
 use Rattle.naim_core.specs.declared.event.Refusal.TheVariants.{Stopped, Present, Full, BadSize, TooSmall, NeedsRoom}
 use Rattle.naim_core.specs.declared.pool.Pool.{Pool}
-use Rattle.naim_core.proofs.Effects.{insert_did, running, follows_ok}
+use Rattle.naim_core.proofs.Effects.{insert_did, running}
 use Rattle.naim_loader.specs.declared.counters.Counters.{Counters}
 use Rattle.naim_loader.specs.declared.home.Home.{Home}
 use Rattle.naim_loader.specs.declared.table.Entry.{Entry}

@@ -1,7 +1,6 @@
 -- A reload begins.
-use Rattle.std.proofs.Common.{◌≡◌, ℕ, ◌*◌, ◌≤◌, ◌<◌, ◌^◌, Bool, true, false, cond, nat_eq, List, [], ◌∷◌, length, Option, Some, None, IsSome, Vec, Result, Ok, Err, refl, sym, ap, subst, arith, ◌∙◌}
-use Rattle.std.specs.Prelude.{is_none, is_some, option_map, nat_lt, not, ◌&&◌, ◌||◌, if◌then◌else◌}
-use Rattle.std.specs.Map.{lookup}
+use Rattle.std.proofs.Common.{◌≡◌, ℕ, ◌*◌, ◌≤◌, ◌^◌, Bool, true, false, List, [], ◌∷◌, Option, Some, None, Vec, Err, refl, sym, ap, subst, arith, ◌∙◌}
+use Rattle.std.specs.Prelude.{is_none, is_some, nat_lt, not, ◌&&◌, ◌||◌, if◌then◌else◌}
 use Rattle.std.specs.declared.alloc.Global.{Global}
 use Rattle.std.proofs.lemmas.Bool.Decides.{nat_tests}
 use Rattle.std.proofs.lemmas.Option.{same_Some}
@@ -30,12 +29,12 @@ use Rattle.naim_loader.specs.declared.forms.Move.TheVariants as move
 use Rattle.naim_loader.specs.declared.forms.PinAnswer.TheVariants as answer
 use Rattle.naim_loader.specs.Calls.{Allows, AnswersPin}
 use Rattle.naim_loader.specs.Counting.{Stepped}
-use Rattle.naim_loader.specs.Forms.{LiesAs, LiesPacked, LiesStored, is_filed}
+use Rattle.naim_loader.specs.Forms.{LiesAs, is_filed}
 use Rattle.naim_loader.specs.Home.{told, is_home}
-use Rattle.naim_loader.specs.Paged.{Paged, content_at, Steps, IsGood, IsTrusted}
-use Rattle.naim_loader.specs.Rows.{Puts, Kept, kept_in, kept_of}
+use Rattle.naim_loader.specs.Paged.{Paged, content_at, IsGood, IsTrusted}
+use Rattle.naim_loader.specs.Rows.{Puts, Kept}
 use Rattle.naim_loader.specs.Whole.{IsWhole}
-use Rattle.naim_loader.proofs.Views.{steps_view, kept_row}
+use Rattle.naim_loader.proofs.Views.{steps_view}
 use Rattle.naim_loader.proofs.Wholes.{whole_moved, there}
 
 -- of a pool that is away, the only refusal of an allowed reload is that the disk is out

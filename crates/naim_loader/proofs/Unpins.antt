@@ -1,7 +1,6 @@
 -- A pin for reading ends.
-use Rattle.std.proofs.Common.{◌≡◌, ◌≢◌, ℕ, ◌+◌, ◌-◌, ◌*◌, ◌≤◌, ◌<◌, Bool, true, false, cond, nat_eq, List, [], ◌∷◌, length, Option, Some, None, IsSome, Vec, Result, Ok, Err, refl, sym, ap, subst, arith, ◌∙◌, ◌⊎◌, inl, inr}
-use Rattle.std.specs.Prelude.{is_none, is_some, option_map, nat_lt, not, ◌&&◌, ◌==◌, if◌then◌else◌}
-use Rattle.std.specs.Map.{lookup}
+use Rattle.std.proofs.Common.{◌≡◌, ◌≢◌, ℕ, ◌+◌, ◌-◌, ◌*◌, ◌≤◌, Bool, true, false, List, [], ◌∷◌, Option, Some, None, Vec, Err, refl, sym, ap, subst, arith, ◌∙◌, ◌⊎◌, inl, inr}
+use Rattle.std.specs.Prelude.{option_map, nat_lt, not, ◌&&◌, ◌==◌, if◌then◌else◌}
 use Rattle.std.specs.declared.alloc.Global.{Global}
 use Rattle.std.proofs.lemmas.Bool.Decides.{nat_tests}
 use Rattle.std.proofs.lemmas.Option.{same_Some}
@@ -26,7 +25,7 @@ use Rattle.naim_loader.specs.declared.table.Entry.{Entry}
 use Rattle.naim_loader.specs.declared.table.Lying.{Lying}
 use Rattle.naim_loader.specs.declared.table.Lying.TheVariants as lying
 use Rattle.naim_loader.specs.Counting.{Stepped}
-use Rattle.naim_loader.specs.Forms.{LiesAs, LiesWhole, LiesPacked, is_filed}
+use Rattle.naim_loader.specs.Forms.{LiesAs, LiesPacked, is_filed}
 use Rattle.naim_loader.specs.Rows.{Puts}
 use Rattle.naim_loader.specs.Whole.{IsWhole}
 use Rattle.naim_loader.proofs.Wholes.{whole_moved, there, found_same}

@@ -1,6 +1,6 @@
 -- What contracts see after a call.
-use Rattle.std.proofs.Common.{◌≡◌, ℕ, Bool, true, false, cond, length, List, Option, Some, None, Result, Ok, Err, nat_eq, refl, sym, ap, subst, ◌∙◌}
-use Rattle.std.specs.Prelude.{is_none, is_some, option_map}
+use Rattle.std.proofs.Common.{◌≡◌, ℕ, Bool, true, false, cond, length, List, Option, Some, Ok, nat_eq, refl, sym, ap, subst, ◌∙◌}
+use Rattle.std.specs.Prelude.{is_none, option_map}
 use Rattle.std.specs.Map.{lookup}
 use Rattle.std.proofs.lemmas.Map.Made.{lookup-map_values}
 use Rattle.naim_core.specs.State.{Core}

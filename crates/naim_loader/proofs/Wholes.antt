@@ -1,6 +1,6 @@
 -- A loader stays whole.
-use Rattle.std.proofs.Common.{◌≡◌, ◌≢◌, ℕ, ◌+◌, ◌*◌, ◌<◌, ◌≤◌, ◌^◌, Bool, true, false, true≢false, cond, nat_eq, List, [], ◌∷◌, length, Option, Some, None, IsSome, Result, Ok, Err, refl, sym, ap, subst, arith, ◌∙◌}
-use Rattle.std.specs.Prelude.{is_none, is_some, max}
+use Rattle.std.proofs.Common.{◌≡◌, ℕ, ◌*◌, ◌≤◌, Bool, true, false, cond, nat_eq, List, length, Option, Some, None, Ok, refl, sym, ap, subst, arith, ◌∙◌}
+use Rattle.std.specs.Prelude.{is_none, max}
 use Rattle.std.specs.List.{IsDistinct}
 use Rattle.std.specs.Map.{keys_of, lookup}
 use Rattle.std.proofs.lemmas.Option.{same_Some}
@@ -10,10 +10,9 @@ use Rattle.naim_core.specs.State.{Core, pool_at}
 use Rattle.naim_core.specs.Sound.{IsSound, RecordsApart}
 use Rattle.naim_core.specs.Steps.{Follows, step_of}
 use Rattle.naim_core.specs.declared.event.Event.{Event}
-use Rattle.naim_core.specs.declared.event.Refusal.{Refusal}
 use Rattle.naim_core.specs.declared.pool.Pool.{Pool}
-use Rattle.naim_core.proofs.Effects.{Turned, follows_ok, follows_err}
-use Rattle.naim_core.proofs.Maps.{same_number, number_itself}
+use Rattle.naim_core.proofs.Effects.{Turned, follows_ok}
+use Rattle.naim_core.proofs.Maps.{same_number}
 use Rattle.naim_loader.specs.declared.counters.Counters.{Counters}
 use Rattle.naim_loader.specs.declared.home.Home.{Home}
 use Rattle.naim_loader.specs.declared.table.Entry.{Entry}

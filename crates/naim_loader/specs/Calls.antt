@@ -1,6 +1,5 @@
 -- What the loader's calls answer.
-use Rattle.std.specs.Prelude.{◌≡◌, ◌<◌, ◌≤◌, ◌+◌, ◌*◌, ◌^◌, ℕ, Bool, true, false, cond, List, Option, Some, None, Ok, Err, IsOk, Result, Vec, is_some, length, nat_eq, ⊤, option_map}
-use Rattle.std.specs.Map.{lookup}
+use Rattle.std.specs.Prelude.{◌≡◌, ◌≤◌, ◌*◌, ◌^◌, ℕ, Bool, true, cond, List, Option, Some, None, Ok, Err, IsOk, Result, Vec, is_some, length, nat_eq, ⊤, option_map}
 use Rattle.std.specs.Arc.{arc_value}
 use Rattle.repository.specs.Record.{HasBytes}
 use Rattle.repository.specs.Filing.{record_of}

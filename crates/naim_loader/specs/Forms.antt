@@ -1,5 +1,5 @@
 -- Where the value of a pool lies.
-use Rattle.std.specs.Prelude.{◌≡◌, ◌*◌, ℕ, Bool, true, false, List, ⊤}
+use Rattle.std.specs.Prelude.{◌≡◌, ℕ, Bool, true, false, List, ⊤}
 use Rattle.std.specs.Arc.{arc_value}
 use Rattle.repository.specs.Filing.{record_of}
 use Rattle.naim_core.specs.declared.event.Form.{Form}

@@ -1,5 +1,5 @@
 -- What contracts see of a loader.
-use Rattle.std.specs.Prelude.{[], true, ◌≡◌, ◌≤◌, ◌*◌, ℕ, Bool, IsTrue, List, Option, Some, Ok, nat_eq, is_none, option_map}
+use Rattle.std.specs.Prelude.{[], true, ◌≡◌, ◌≤◌, ◌*◌, ℕ, Bool, IsTrue, List, Option, Ok, nat_eq, is_none, option_map}
 use Rattle.std.specs.Map.{lookup}
 use Rattle.naim_core.specs.State.{Core, start}
 use Rattle.naim_core.specs.Steps.{step_of}

@@ -1,5 +1,5 @@
 -- What a loader keeps between calls: each pool's value stands in the form that the core's state tells.
-use Rattle.std.specs.Prelude.{◌≡◌, ◌<◌, ◌≤◌, ◌^◌, ◌*◌, ℕ, Bool, true, false, List, length, Option, Some, None, nat_eq, is_none, ⊤}
+use Rattle.std.specs.Prelude.{◌≡◌, ◌<◌, ◌≤◌, ◌^◌, ◌*◌, ℕ, Bool, true, List, length, Option, Some, None, nat_eq, is_none, ⊤}
 use Rattle.std.specs.List.{IsDistinct}
 use Rattle.std.specs.Map.{keys_of, lookup}
 use Rattle.repository.specs.Record.{HasBytes}

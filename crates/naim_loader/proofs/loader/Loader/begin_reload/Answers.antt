@@ -1,6 +1,5 @@
-use Rattle.std.proofs.Common.{◌≡◌, ◌*◌, IsSome, nat_eq, None, Some, Ok, Err, true, false, refl, sym, ap, subst, ◌∙◌}
-use Rattle.std.specs.Prelude.{option_map, is_some, is_none, if◌then◌else◌}
-use Rattle.std.specs.Map.{lookup}
+use Rattle.std.proofs.Common.{◌*◌, Some, Err, refl, sym, ap, subst, ◌∙◌}
+use Rattle.std.specs.Prelude.{option_map, is_none, if◌then◌else◌}
 use Rattle.repository.specs.Record.{HasBytes}
 use Rattle.repository.specs.Filing.{record_of}
 use Rattle.naim_core.specs.State.{pool_at, is_offloaded}

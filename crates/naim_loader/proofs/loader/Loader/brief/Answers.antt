@@ -1,5 +1,5 @@
-use Rattle.std.proofs.Common.{◌≡◌, ◌<◌, ◌≤◌, length, None, Some, Ok, Err, true, false, arith, refl, sym, ap, subst, ◌∙◌, inl, inr}
-use Rattle.std.specs.Prelude.{option_map, is_some, is_none}
+use Rattle.std.proofs.Common.{None, Some, refl, ap}
+use Rattle.std.specs.Prelude.{option_map}
 use Rattle.naim_loader.proofs.Views.{kept_row}
 use Rattle.naim_loader.proofs.loader.Loader.brief.Goals as goal
 

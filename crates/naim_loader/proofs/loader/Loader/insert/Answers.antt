@@ -1,6 +1,5 @@
-use Rattle.std.proofs.Common.{◌≡◌, ◌<◌, ◌≤◌, length, None, Some, Ok, Err, true, false, arith, refl, sym, ap, subst, ◌∙◌, inl, inr}
-use Rattle.std.specs.Prelude.{option_map, is_some, is_none}
-use Rattle.naim_core.specs.State.{pool_at}
+use Rattle.std.proofs.Common.{length, arith, refl, sym, ap, subst, ◌∙◌, inl, inr}
+use Rattle.std.specs.Prelude.{is_some, is_none}
 use Rattle.naim_core.specs.declared.event.Event.TheVariants as event
 use Rattle.naim_core.proofs.Effects.{follows_err, no_failure, insert_did}
 use Rattle.naim_loader.specs.Drafts.{draft_value, draft_form}

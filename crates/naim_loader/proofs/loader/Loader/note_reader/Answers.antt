@@ -1,5 +1,4 @@
-use Rattle.std.proofs.Common.{◌≡◌, ◌<◌, ◌≤◌, length, None, Some, Ok, Err, true, false, arith, refl, sym, ap, subst, ◌∙◌, inl, inr}
-use Rattle.std.specs.Prelude.{option_map, is_some, is_none}
+use Rattle.std.proofs.Common.{ap, ◌∙◌}
 use Rattle.naim_core.specs.declared.event.Event.TheVariants as event
 use Rattle.naim_loader.proofs.Wholes.{stepped}
 use Rattle.naim_loader.proofs.Events.{pin_read_whole}

@@ -1,5 +1,3 @@
-use Rattle.std.proofs.Common.{◌≡◌, ◌<◌, ◌≤◌, length, None, Some, Ok, Err, true, false, arith, refl, sym, ap, subst, ◌∙◌, inl, inr}
-use Rattle.std.specs.Prelude.{option_map, is_some, is_none}
 use Rattle.naim_core.specs.declared.event.Failure.TheVariants as failure
 use Rattle.naim_loader.proofs.Inserts.{fail_whole, fail_stepped, failed_is}
 use Rattle.naim_loader.proofs.loader.Loader.refuse.Goals as goal

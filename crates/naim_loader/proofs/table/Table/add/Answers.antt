@@ -1,5 +1,4 @@
-use Rattle.std.proofs.Common.{◌≡◌, ◌<◌, length, None, Some, nat_eq, arith, rules, refl, sym, ap, subst, ◌∙◌}
-use Rattle.std.proofs.lemmas.Option.{slice_get-get_or}
+use Rattle.std.proofs.Common.{arith, ◌∙◌}
 use Rattle.naim_loader.proofs.Rows.{added_at, adds_at}
 use Rattle.naim_loader.proofs.table.Table.add.Goals as goal
 

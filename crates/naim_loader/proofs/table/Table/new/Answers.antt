@@ -1,4 +1,4 @@
-use Rattle.std.proofs.Common.{◌≡◌, arith, rules, refl}
+use Rattle.std.proofs.Common.{arith, rules, refl}
 use Rattle.naim_loader.proofs.Rows.{fresh_table}
 use Rattle.naim_loader.proofs.table.Table.new.Goals as goal
 

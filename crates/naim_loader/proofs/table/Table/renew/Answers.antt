@@ -1,5 +1,3 @@
-use Rattle.std.proofs.Common.{◌≡◌, ◌<◌, length, None, Some, nat_eq, arith, rules, refl, sym, ap, subst, ◌∙◌}
-use Rattle.std.proofs.lemmas.Option.{slice_get-get_or}
 use Rattle.naim_loader.proofs.Rows.{changed_at, renews_at}
 use Rattle.naim_loader.proofs.table.Table.renew.Goals as goal
 
