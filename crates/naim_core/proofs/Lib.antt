@@ -1,5 +1,6 @@
 pub mod Bounds
 pub mod Cuts
+pub mod Effects
 pub mod Events
 pub mod Fresh
 pub mod Keeps

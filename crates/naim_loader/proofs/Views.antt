@@ -1,0 +1,61 @@
+-- What contracts see after a call.
+use Rattle.std.proofs.Common.{◌≡◌, ℕ, Bool, true, false, cond, length, List, Option, Some, Ok, nat_eq, refl, sym, ap, subst, ◌∙◌}
+use Rattle.std.specs.Prelude.{is_none, option_map}
+use Rattle.std.specs.Map.{lookup}
+use Rattle.std.proofs.lemmas.Map.Made.{lookup-map_values}
+use Rattle.naim_core.specs.State.{Core}
+use Rattle.naim_core.specs.Steps.{step_of}
+use Rattle.naim_core.specs.declared.event.Event.{Event}
+use Rattle.naim_loader.specs.declared.counters.Counters.{Counters}
+use Rattle.naim_loader.specs.declared.table.Entry.{Entry}
+use Rattle.naim_loader.specs.Counting.{Stepped}
+use Rattle.naim_loader.specs.Paged.{Paged, kept_at, content_at, Steps}
+use Rattle.naim_core.specs.declared.event.Event.TheVariants as event
+use Rattle.naim_core.specs.declared.event.Form.{Form}
+use Rattle.naim_loader.specs.Calls.{Inserts}
+use Rattle.naim_loader.specs.Drafts.{draft_value, draft_form}
+use Rattle.naim_loader.specs.declared.forms.Draft.{Draft}
+use Rattle.naim_loader.specs.Rows.{Kept, Renews, kept_of, kept_in}
+
+pub kept_lookup : {T B : Type 0} (rows : List (ℕ × Entry T B)) (q : ℕ) → lookup (nat_eq q) (kept_in rows) ≡ option_map kept_of (lookup (nat_eq q) rows)
+kept_lookup rows q = lookup-map_values kept_of (nat_eq q) rows
+
+module _ {T B D : Type 0} where
+  -- what is kept of a pool, by the table
+  pub kept_row : (old v : Paged T B D) (rows : List (ℕ × Entry T B)) (p : ℕ) (o : Option (Entry T B)) → v ≡ old → v.kept ≡ kept_in rows → lookup (nat_eq p) rows ≡ o → kept_at old p ≡ option_map kept_of o
+  kept_row old v rows p o e k is = ap (λ z. kept_at z p) (sym e) ∙ ap (lookup (nat_eq p)) k ∙ kept_lookup rows p ∙ ap (option_map kept_of) is
+
+  -- what is kept after an entry was put or renewed
+  pub keeps_row : (old v : Paged T B D) (rows rows' : List (ℕ × Entry T B)) (p : ℕ) (x : Option (Entry T B)) → v ≡ old → v.kept ≡ kept_in rows → Renews rows rows' p x
+      → (q : ℕ) → lookup (nat_eq q) (kept_in rows') ≡ cond (nat_eq p q) (option_map kept_of x) (kept_at old q)
+  keeps_row old v rows rows' p x e k put q = kept_lookup rows' q ∙ ap (option_map kept_of) (put.found q) ∙ inside (nat_eq p q) ∙ ap (cond (nat_eq p q) (option_map kept_of x)) (sym (kept_row old v rows q (lookup (nat_eq q) rows) e k refl))
+    where
+      inside : (b : Bool) → option_map kept_of (cond b x (lookup (nat_eq q) rows)) ≡ cond b (option_map kept_of x) (option_map kept_of (lookup (nat_eq q) rows))
+      inside true = refl
+      inside false = refl
+
+  pub inserted_view : (charge : T → ℕ) (spell : T → List ℕ) (old v : Paged T B D) (rows rows' : List (ℕ × Entry T B)) (p : ℕ) (d : Draft T) (brief : B) (x : Entry T B) (f : Form) (e c : ℕ) (new : Core) (after : Counters) → v ≡ old → v.kept ≡ kept_in rows
+      → v.home ≡ is_none new.disk → Stepped v.core (event.Insert p f e c) new v.counters after → Renews rows rows' p (Some x) → f ≡ draft_form d → e ≡ charge (draft_value d) → c ≡ length (spell (draft_value d)) → kept_of x ≡ record { value = draft_value d; brief = brief }
+      → Inserts charge spell old (record { core = new; kept = kept_in rows'; disk = v.disk; home = v.home; first = v.first; counters = after }) p d brief
+  inserted_view charge spell old v rows rows' p d brief x f e c new after view k h t put form_is charge_is length_is same =
+      let at : step_of v.core (event.Insert p (draft_form d) (charge (draft_value d)) (length (spell (draft_value d)))) ≡ Ok new = sym (λ i. step_of v.core (event.Insert p (form_is i) (charge_is i) (length_is i))) ∙ t.step in
+      subst (λ z. Inserts charge spell z (record { core = new; kept = kept_in rows'; disk = v.disk; home = v.home; first = v.first; counters = after }) p d brief) view (record {
+        event = record { step = at; same = λ i. record { core = new; kept = kept_in rows'; disk = v.disk; home = h i; first = v.first; counters = t.counts i } };
+        disk_same = refl;
+        kept = λ q. keeps_row v v rows rows' p (Some x) refl k put q ∙ ap (λ z. cond (nat_eq p q) (Some z) (kept_at v q)) same;
+      })
+
+  -- nothing has changed
+  pub same_view : (old v : Paged T B D) (new : Core) (after : Counters) → v ≡ old → new ≡ v.core → after ≡ v.counters → record v { core = new; counters = after } ≡ old
+  same_view old v new after e f g = (λ i. record v { core = f i; counters = g i }) ∙ e
+
+  -- the call was this event
+  pub steps_view : (old v : Paged T B D) (event : Event) (new : Core) (after : Counters) (kept : List (ℕ × Kept T B)) (d : D) (home : Bool) → v ≡ old → Stepped v.core event new v.counters after → kept ≡ v.kept → d ≡ v.disk → home ≡ is_none new.disk
+      → Steps old event (record { core = new; kept = kept; disk = d; home = home; first = v.first; counters = after })
+  steps_view old v event new after kept d home e t k s h =
+      subst (λ z. Steps z event (record { core = new; kept = kept; disk = d; home = home; first = v.first; counters = after })) e
+      (record { step = t.step; same = λ i. record { core = new; kept = k i; disk = s i; home = h i; first = v.first; counters = t.counts i } })
+
+  -- what the contents have of a pool
+  pub content_here : (old v : Paged T B D) (p : ℕ) (k : Kept T B) → v ≡ old → lookup (nat_eq p) v.kept ≡ Some k → content_at old p ≡ Some k.value
+  content_here old v p k e at = ap (λ z. content_at z p) (sym e) ∙ ap (option_map (λ z. z.value)) at

@@ -1,0 +1,125 @@
+-- What the loader's calls answer.
+use Rattle.std.specs.Prelude.{◌≡◌, ◌≤◌, ◌*◌, ◌^◌, ℕ, Bool, true, cond, List, Option, Some, None, Ok, Err, IsOk, Result, Vec, is_some, length, nat_eq, ⊤, option_map}
+use Rattle.std.specs.Arc.{arc_value}
+use Rattle.repository.specs.Record.{HasBytes}
+use Rattle.repository.specs.Filing.{record_of}
+use Rattle.naim_core.specs.Charges.{room_of}
+use Rattle.naim_core.specs.Rows
+use Rattle.naim_core.specs.State.{Core, hand_at}
+use Rattle.naim_core.specs.Steps.{step_of, failed}
+use Rattle.naim_core.specs.declared.event.Event.{Event}
+use Rattle.naim_core.specs.declared.event.Event.TheVariants as event
+use Rattle.naim_core.specs.declared.event.Failure.{Failure}
+use Rattle.naim_core.specs.declared.event.Failure.TheVariants as failure
+use Rattle.naim_core.specs.declared.event.Form.{Form}
+use Rattle.naim_core.specs.declared.event.Form.TheVariants as form
+use Rattle.naim_core.specs.declared.event.Mode.{Mode}
+use Rattle.naim_core.specs.declared.event.Mode.TheVariants as mode
+use Rattle.naim_core.specs.declared.event.Refusal.TheVariants as refusal
+use Rattle.naim_loader.specs.declared.forms.Draft.{Draft}
+use Rattle.naim_loader.specs.declared.forms.Move.{Move}
+use Rattle.naim_loader.specs.declared.forms.Move.TheVariants as move
+use Rattle.naim_loader.specs.declared.forms.Pin.{Pin}
+use Rattle.naim_loader.specs.declared.forms.Pin.TheVariants as pin
+use Rattle.naim_loader.specs.declared.forms.PinAnswer.{PinAnswer}
+use Rattle.naim_loader.specs.declared.forms.PinAnswer.TheVariants as answer
+use Rattle.naim_loader.specs.declared.forms.ReadPin.{ReadPin}
+use Rattle.std.specs.declared.alloc.Global.{Global}
+use Rattle.naim_loader.specs.declared.forms.Put.{Put}
+use Rattle.naim_loader.specs.declared.forms.Put.TheVariants as put
+use Rattle.naim_loader.specs.Counting.{counted}
+use Rattle.naim_loader.specs.Drafts.{draft_value, draft_form}
+use Rattle.naim_loader.specs.Paged.{Paged, kept_at, content_at, Steps, Changes, IsTrusted}
+use Rattle.naim_loader.specs.Rows.{Kept}
+
+-- what is kept of p is now k, and of every other pool what it was
+abbrev pub KeepsAt : {T B D : Type 0} → Paged T B D → Paged T B D → ℕ → Option (Kept T B) → Type 0
+KeepsAt old new p k = (q : ℕ) → kept_at new q ≡ cond (nat_eq p q) k (kept_at old q)
+
+-- the brief of the pool p
+abbrev pub brief_at : {T B D : Type 0} → Paged T B D → ℕ → Option B
+brief_at l p = option_map (λ k. k.brief) (kept_at l p)
+
+-- a failure was kept before, and nothing has changed
+pub record Stopped {T B D : Type 0} (old new : Paged T B D) : Type 0 where
+  pub kept : is_some old.core.failure ≡ true
+  pub same : new ≡ old
+
+-- the failure was told, and nothing else has changed; the first one is kept
+pub record Fails {T B D : Type 0} (old : Paged T B D) (w : ℕ) (f : Failure) (new : Paged T B D) : Type 0 where
+  pub same : new ≡ record old { core = failed old.core f; counters = counted (event.Fail w f) old.counters (failed old.core f) }
+
+-- a new pool is in: it has the value and the brief
+pub record Inserts {T B D : Type 0} (charge : T → ℕ) (spell : T → List ℕ) (old new : Paged T B D) (p : ℕ) (d : Draft T) (brief : B) : Type 0 where
+  pub event : Changes old (event.Insert p (draft_form d) (charge (draft_value d)) (length (spell (draft_value d)))) new
+  pub disk_same : new.disk ≡ old.disk
+  pub kept : KeepsAt old new p (Some (record { value = draft_value d; brief = brief }))
+
+-- the answer to an insertion
+abbrev pub AnswersInsert : {T B D : Type 0} (charge : T → ℕ) (spell : T → List ℕ) → Paged T B D → Paged T B D → ℕ → Draft T → B → Put T B → Type 0
+AnswersInsert charge spell old new p d brief put.Done = Inserts charge spell old new p d brief
+AnswersInsert charge spell old new p d brief (put.NeedsRoom bytes back brief_back) =
+    (new ≡ old) × (step_of old.core (event.Insert p (draft_form d) (charge (draft_value d)) (length (spell (draft_value d)))) ≡ Err (refusal.NeedsRoom bytes)) × (back ≡ d) × (brief_back ≡ brief)
+AnswersInsert charge spell old new p d brief (put.TooSmall pid need limit) =
+    (step_of old.core (event.Insert p (draft_form d) (charge (draft_value d)) (length (spell (draft_value d)))) ≡ Err (refusal.TooSmall need)) × (pid ≡ p) × (limit ≡ old.core.limit)
+    × Fails old 0 (failure.TooSmall p need limit) new
+AnswersInsert charge spell old new p d brief put.Stopped = Stopped old new
+
+-- the hand has a free place for the pin and for a move; in a wave a pool is written by its task's worker; the room is at most 2^41
+pub record Allows (s : Core) (w p : ℕ) (m : Mode) : Type 0 where
+  pub moved : (hand_at s.hands w).moved ≡ None
+  pub pin : Rows.pin_place m (hand_at s.hands w) ≡ None
+  pub task : Rows.is_write m ≡ true → s.in_wave ≡ true → (hand_at s.hands w).task ≡ Some p
+  pub room : room_of m ≤ 2 ^ 41
+
+-- the event that pins for reading or for writing
+abbrev pub pin_event : ℕ → ℕ → Mode → Event
+pin_event w p mode.Read = event.PinRead w p
+pin_event w p (mode.Write room) = event.PinWrite w p room
+
+module _ {T B D : Type 0} (charge : T → ℕ) (spell : T → List ℕ) (bytes : D → Option (List ℕ)) (reach : D → ℕ) (honest : D → Bool) where
+  -- a pin of the mode, of p, with the body that the contents have
+  abbrev pub IsPin : Paged T B D → ℕ → Mode → Pin T → Type 0
+  IsPin old p mode.Read (pin.Read x) = (x.pid ≡ p) × (content_at old p ≡ Some (arc_value x.body))
+  IsPin old p (mode.Write room) (pin.Write x) = (x.pid ≡ p) × (content_at old p ≡ Some (arc_value x.body))
+  IsPin old p mode.Read (pin.Write x) = ⊥
+  IsPin old p (mode.Write room) (pin.Read x) = ⊥
+
+  -- the record of the value r of p, handed out with the disk, which has its bytes if it is trusted
+  pub record HandsRecord (old : Paged T B D) (p : ℕ) (number : ℕ) (d : D) (r : T) : Type 0 where
+    pub content : content_at old p ≡ Some r
+    pub charge_is : number ≡ charge r
+    pub disk_is : d ≡ old.disk
+    pub there : IsTrusted reach honest old → HasBytes (bytes d) (p * old.core.limit) (spell r)
+
+  -- what is handed out to be made the body of p: the bytes or the record of the value that the contents have
+  abbrev pub IsReload : Paged T B D → ℕ → Move T D → Type 0
+  IsReload old p (move.FromBytes q b) = (q ≡ p) × ((r : T) × (content_at old p ≡ Some r) × (b.items ≡ spell r))
+  IsReload old p (move.FromDisk q filed number d) = (q ≡ p) × ((r : T) × (filed ≡ record_of (p * old.core.limit) (spell r)) × HandsRecord old p number d r)
+  IsReload old p (move.Compacting q a) = ⊥
+  IsReload old p (move.Offloading q place b d) = ⊥
+
+  -- the answer to a wish for a pin
+  abbrev pub AnswersPin : Paged T B D → Paged T B D → ℕ → ℕ → Mode → PinAnswer T D → Type 0
+  AnswersPin old new w p m (answer.Ready x) = Steps old (pin_event w p m) new × IsPin old p m x
+  AnswersPin old new w p m (answer.Reload mv) = Steps old (event.ReloadBegin w p m) new × IsReload old p mv
+  AnswersPin old new w p m answer.Moving = (new ≡ old) × (step_of old.core (pin_event w p m) ≡ Err refusal.Moving)
+  AnswersPin old new w p m answer.InUse = (new ≡ old) × (step_of old.core (pin_event w p m) ≡ Err refusal.InUse)
+  AnswersPin old new w p m answer.DiskOut = (new ≡ old) × (step_of old.core (event.ReloadBegin w p m) ≡ Err refusal.DiskOut)
+  AnswersPin old new w p m answer.Stopped = Stopped old new
+  AnswersPin old new w p m answer.Memory = (m ≡ mode.Read) × (new ≡ old) × IsOk (step_of old.core (pin_event w p m))
+
+-- packed bytes are the spelling of the body
+abbrev pub IsPacked : {T : Type 0} (spell : T → List ℕ) → Option (Vec ℕ Global) → T → Type 0
+IsPacked spell None r = ⊤
+IsPacked spell (Some v) r = v.items ≡ spell r
+
+-- the form in which the last reader leaves a pool
+abbrev pub unpin_form : Option (Vec ℕ Global) → Form
+unpin_form None = form.Expanded
+unpin_form (Some v) = form.Compacted
+
+-- the answer to the end of a pin for reading, while no failure is kept: it is the event, or the form doesn't fit and all is as it was
+abbrev pub AnswersUnpin : {T B D : Type 0} → Paged T B D → Paged T B D → ℕ → ReadPin T → Form → Result (Unit {0}) (ReadPin T × ℕ) → Type 0
+AnswersUnpin old new w x f (Ok u) = Steps old (event.UnpinRead w x.pid f) new
+AnswersUnpin old new w x f (Err e) = (new ≡ old) × (step_of old.core (event.UnpinRead w x.pid f) ≡ Err (refusal.NeedsRoom e.1)) × (e.0 ≡ x)
