@@ -141,7 +141,7 @@ pub pin_read_did : (s new : Core) (w p : ℕ) → IsSound s → s.failure ≡ No
 pin_read_did s new w p sound none h =
     let g = hand_at s.hands w in
     let d = did_on s p (λ x. Rows.pin_read_row x g) (λ x. record x { stage = Rows.with_reader x.stage }) (λ x y. record s { pools = front p y s.pools; hands = slice_set s.hands w (record g { read = Some p }) }) new
-        (sym (running s (event.PinRead w p) none) ∙ h) in
+    (sym (running s (event.PinRead w p) none) ∙ h) in
     let x = d.pool in let y : Pool = record x { stage = Rows.with_reader x.stage } in
     let free = part (is_some g.read) HandFull _ y d.permitted in let still = part (is_moving x.stage) Moving _ y free.1 in
     let here = part (is_away x.stage) WrongForm _ y still.1 in let alone = part (is_written x.stage) InUse _ y here.1 in
@@ -167,7 +167,7 @@ pub pin_write_did : (s new : Core) (w p room : ℕ) → IsSound s → s.failure 
 pin_write_did s new w p room sound none h =
     let g = hand_at s.hands w in
     let d = did_on s p (λ x. Rows.pin_write_row x g s.in_wave p room) (λ x. record x { stage = stage.Written room }) (λ x y. record s { pools = front p y s.pools; hands = slice_set s.hands w (record g { written = Some p }) }) new
-        (sym (running s (event.PinWrite w p room) none) ∙ h) in
+    (sym (running s (event.PinWrite w p room) none) ∙ h) in
     let x = d.pool in let y : Pool = record x { stage = stage.Written room } in
     let free = part (is_some g.written) HandFull _ y d.permitted in let task = part (s.in_wave && not (holds g.task p)) NoTask _ y free.1 in
     let still = part (is_moving x.stage) Moving _ y task.1 in let here = part (is_away x.stage) WrongForm _ y still.1 in let alone = part (is_pinned x.stage) InUse _ y here.1 in
@@ -198,8 +198,8 @@ pub reload_begin_did : (s new : Core) (w p : ℕ) (m : Mode) → IsSound s → s
 reload_begin_did s new w p m sound none h =
     let g = hand_at s.hands w in
     let d = did_on s p (λ x. Rows.reload_begin_row x g s.in_wave p m s.disk) (λ x. record x { stage = stage.Reloading m (is_offloaded x.stage) })
-        (λ x y. record s { pools = in_place p y s.pools; hands = slice_set s.hands w (take_pin m p g); disk = if is_offloaded x.stage then Some w else s.disk }) new
-        (sym (running s (event.ReloadBegin w p m) none) ∙ h) in
+    (λ x y. record s { pools = in_place p y s.pools; hands = slice_set s.hands w (take_pin m p g); disk = if is_offloaded x.stage then Some w else s.disk }) new
+    (sym (running s (event.ReloadBegin w p m) none) ∙ h) in
     let x = d.pool in let y : Pool = record x { stage = stage.Reloading m (is_offloaded x.stage) } in
     let free = part (is_some g.moved || is_some (Rows.pin_place m g)) HandFull _ y d.permitted in let task = part (Rows.is_write m && s.in_wave && not (holds g.task p)) NoTask _ y free.1 in
     let still = part (is_moving x.stage) Moving _ y task.1 in let here = part (is_expanded x.stage) WrongForm _ y still.1 in let home = part (is_offloaded x.stage && is_some s.disk) DiskOut _ y here.1 in
@@ -215,8 +215,8 @@ pub reload_end_did : (s new : Core) (w p : ℕ) → IsSound s → s.failure ≡ 
 reload_end_did s new w p sound none h =
     let g = hand_at s.hands w in
     let d = did_on s p (λ x. Rows.reload_end_row x g p) (λ x. record x { stage = Rows.reloaded x.stage })
-        (λ x y. record s { pools = front p y s.pools; hands = slice_set s.hands w (record g { moved = None }); disk = if moves_by_disk x.stage then None else s.disk }) new
-        (sym (running s (event.ReloadEnd w p) none) ∙ h) in
+    (λ x y. record s { pools = front p y s.pools; hands = slice_set s.hands w (record g { moved = None }); disk = if moves_by_disk x.stage then None else s.disk }) new
+    (sym (running s (event.ReloadEnd w p) none) ∙ h) in
     let x = d.pool in let y : Pool = record x { stage = Rows.reloaded x.stage } in
     let held = part (not (holds g.moved p && is_reloading x.stage)) NotHeld _ y d.permitted in
     record {
@@ -231,7 +231,7 @@ pub unpin_read_did : (s new : Core) (w p : ℕ) (f : Form) → IsSound s → s.f
 unpin_read_did s new w p f sound none h =
     let g = hand_at s.hands w in
     let d = did_on s p (λ x. Rows.unpin_read_row s.limit (under_sum s.pools) x g p f) (λ x. record x { stage = Rows.without_reader f x.stage }) (λ x y. record s { pools = front p y s.pools; hands = slice_set s.hands w (record g { read = None }) }) new
-        (sym (running s (event.UnpinRead w p f) none) ∙ h) in
+    (sym (running s (event.UnpinRead w p f) none) ∙ h) in
     let x = d.pool in let y : Pool = record x { stage = Rows.without_reader f x.stage } in
     let held = part (not (holds g.read p && is_read x.stage)) NotHeld _ y d.permitted in
     record {
@@ -261,7 +261,7 @@ pub compact_end_did : (s new : Core) (w p : ℕ) → IsSound s → s.failure ≡
 compact_end_did s new w p sound none h =
     let g = hand_at s.hands w in
     let d = did_on s p (λ x. Rows.compact_end_row x g p) (λ x. record x { stage = stage.Compacted }) (λ x y. record s { pools = in_place p y s.pools; hands = slice_set s.hands w (record g { moved = None }) }) new
-        (sym (running s (event.CompactEnd w p) none) ∙ h) in
+    (sym (running s (event.CompactEnd w p) none) ∙ h) in
     let x = d.pool in let y : Pool = record x { stage = stage.Compacted } in
     let held = part (not (holds g.moved p && is_compacting x.stage)) NotHeld _ y d.permitted in
     record {
@@ -276,7 +276,7 @@ pub offload_end_did : (s new : Core) (w p : ℕ) → IsSound s → s.failure ≡
 offload_end_did s new w p sound none h =
     let g = hand_at s.hands w in
     let d = did_on s p (λ x. Rows.offload_end_row x g p) (λ x. record x { stage = stage.Offloaded }) (λ x y. record s { pools = in_place p y s.pools; hands = slice_set s.hands w (record g { moved = None }); disk = None }) new
-        (sym (running s (event.OffloadEnd w p) none) ∙ h) in
+    (sym (running s (event.OffloadEnd w p) none) ∙ h) in
     let x = d.pool in let y : Pool = record x { stage = stage.Offloaded } in
     let held = part (not (holds g.moved p && is_offloading x.stage)) NotHeld _ y d.permitted in
     record {
@@ -286,14 +286,13 @@ offload_end_did s new w p sound none h =
       turned = turned_to s (record s { pools = in_place p y s.pools; hands = slice_set s.hands w (record g { moved = None }); disk = None }) new p x y (swapped_in_place p x y s.pools sound.one_pool d.at) refl refl d.is;
     }
 
-
 -- the victim is expanded and nobody holds it, or compacted
 pub compact_begin_did : (s new : Core) (w p wanted : ℕ) → IsSound s → s.failure ≡ None → step_of s (event.CompactBegin w p wanted) ≡ Ok new
     → Did s new p (λ st. is_expanded st ≡ true) (λ x. record x { stage = stage.Compacting }) (λ x. s.disk)
 compact_begin_did s new w p wanted sound none h =
     let g = hand_at s.hands w in
     let d = did_on s p (λ x. Rows.compact_begin_row s.limit (under_sum s.pools) (victim s.pools) x g p wanted) (λ x. record x { stage = stage.Compacting }) (λ x y. record s { pools = in_place p y s.pools; hands = slice_set s.hands w (record g { moved = Some p }) }) new
-        (sym (running s (event.CompactBegin w p wanted) none) ∙ h) in
+    (sym (running s (event.CompactBegin w p wanted) none) ∙ h) in
     let x = d.pool in let y : Pool = record x { stage = stage.Compacting } in
     let free = part (is_some g.moved) HandFull _ y d.permitted in let still = part (is_moving x.stage) Moving _ y free.1 in let here = part (is_away x.stage) WrongForm _ y still.1 in
     record {
@@ -318,7 +317,7 @@ pub offload_begin_did : (s new : Core) (w p wanted : ℕ) → IsSound s → s.fa
 offload_begin_did s new w p wanted sound none h =
     let g = hand_at s.hands w in
     let d = did_on s p (λ x. Rows.offload_begin_row s.limit (under_sum s.pools) (victim s.pools) x g p wanted s.disk) (λ x. record x { stage = stage.Offloading }) (λ x y. record s { pools = in_place p y s.pools; hands = slice_set s.hands w (record g { moved = Some p }); disk = Some w }) new
-        (sym (running s (event.OffloadBegin w p wanted) none) ∙ h) in
+    (sym (running s (event.OffloadBegin w p wanted) none) ∙ h) in
     let x = d.pool in let y : Pool = record x { stage = stage.Offloading } in
     let free = part (is_some g.moved) HandFull _ y d.permitted in let still = part (is_moving x.stage) Moving _ y free.1 in let here = part (is_expanded x.stage || is_offloaded x.stage) WrongForm _ y still.1 in
     let home = part (is_some s.disk) DiskOut _ y here.1 in
@@ -347,7 +346,6 @@ offload_begin_did s new w p wanted sound none h =
 pub remove_did : (s new : Core) (p : ℕ) → IsSound s → s.failure ≡ None → step_of s (event.Remove p) ≡ Ok new → Turned s new p None s.disk
 remove_did s new p sound none h = gone (pool_at s.pools p) (sym (running s (event.Remove p) none) ∙ h)
   where
-
     gone : (o : Option Pool) → option_map_or (λ x. permit (Rows.remove_row x s.in_wave) (record s { pools = remove_entry (nat_eq p) s.pools })) o (Err Absent) ≡ Ok new → Turned s new p None s.disk
     gone None k = cc
     gone (Some x) k =
