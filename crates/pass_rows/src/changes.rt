@@ -3,7 +3,7 @@ ghost use Rattle.il_core.specs.Valid.{IsProgram};
 ghost use Rattle.const_prop.specs.Tables.{IsValidRoutine};
 
 use cleanup::{drop_dead_writes, drop_unreachable, fold_branches, merge_blocks, simplify};
-use const_prop::propagate;
+use const_prop::{copy_routine, propagate};
 use il_check::row_of;
 use il_core::{IlProgram, Routine};
 use il_text::write_routine;
@@ -28,7 +28,7 @@ pub(crate) fn change(
     Ok(())
 }
 
-/// A routine as a pass changes it.
+/// A routine as a pass changes it; as it is where the word names no pass.
 fn changed(alloc: Global, pass: &str, routine: &Routine) -> Result<Routine, AllocError>
     requires { IsValidRoutine routine.now }
 {
@@ -42,7 +42,9 @@ fn changed(alloc: Global, pass: &str, routine: &Routine) -> Result<Routine, Allo
         drop_dead_writes(alloc, routine)
     } else if pass == "merge_blocks" {
         merge_blocks(alloc, routine)
-    } else {
+    } else if pass == "simplify" {
         simplify(alloc, routine)
+    } else {
+        copy_routine(alloc, routine)
     }
 }
