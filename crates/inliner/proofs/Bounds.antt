@@ -1,6 +1,6 @@
 -- What a valid routine within the limits names.
-use Rattle.std.proofs.Common.{◌≡◌, ℕ, suc, ◌+◌, ◌<◌, ◌≤◌, List, [], ◌∷◌, refl, subst, sym, arith, length}
-use Rattle.std.specs.Prelude.{Option, Some, None, sum_by}
+use Rattle.std.proofs.Common.{◌≡◌, ℕ, ◌+◌, ◌<◌, ◌≤◌, List, [], ◌∷◌, arith, length}
+use Rattle.std.specs.Prelude.{Option, Some, None}
 use Rattle.std.specs.List.{AllByRecursion}
 use Rattle.std.proofs.lemmas.List.Sums.{sum_by-cons}
 use Rattle.il_core.specs.declared.instr.Block.{Block}
@@ -14,8 +14,8 @@ use Rattle.il_core.specs.Routine.{RoutineParts}
 use Rattle.il_core.specs.Size.{block_size, blocks_size}
 use Rattle.il_core.specs.Valid.{IsRegIfSome, IsValidInstr, IsValidEnd, AreValidBlocks}
 use Rattle.il_laws.proofs.Grown.{all_to}
-use Rattle.const_prop.specs.Tables.{IsValidRoutine, NamesRegisters}
-use Rattle.inliner.specs.Copies.{IsCopied, IsCopiedBlock, NamesArrays, NamesBlocks, ReadsRegister, few_blocks}
+use Rattle.const_prop.specs.Tables.{IsValidRoutine}
+use Rattle.inliner.specs.Copies.{IsCopied, IsCopiedBlock, NamesBlocks, ReadsRegister, few_blocks}
 
 blocks_few : (xs : List Block) → length xs ≤ blocks_size xs
 blocks_few [] = omega arith

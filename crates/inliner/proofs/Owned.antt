@@ -57,7 +57,7 @@ module _ (r q : RoutineParts) (k : ℕ) (blocks : List Block) (same : blocks ≡
         let b = le-leb (length r.arrays + length q.arrays) max_arrays (omega arith) in
         let c = le-leb (sum r.arrays + sum q.arrays) max_elements (omega arith) in
         let all : (nat_le (r.regs + q.regs) max_registers && nat_le (length r.arrays + length q.arrays) max_arrays
-            && nat_le (sum r.arrays + sum q.arrays) max_elements) ≡ true
-            = ap (λ (x : Bool). x && nat_le (length r.arrays + length q.arrays) max_arrays && nat_le (sum r.arrays + sum q.arrays) max_elements) a
-            ∙ ap (λ (x : Bool). x && nat_le (sum r.arrays + sum q.arrays) max_elements) b ∙ c in
+        && nat_le (sum r.arrays + sum q.arrays) max_elements) ≡ true
+        = ap (λ (x : Bool). x && nat_le (length r.arrays + length q.arrays) max_arrays && nat_le (sum r.arrays + sum q.arrays) max_elements) a
+        ∙ ap (λ (x : Bool). x && nat_le (sum r.arrays + sum q.arrays) max_elements) b ∙ c in
         let bad : true ≡ false = sym all ∙ e in absurd cc

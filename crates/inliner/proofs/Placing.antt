@@ -1,6 +1,6 @@
 -- Where the code finds a site, the definition finds it, and where it finds none there is none.
 use Rattle.std.proofs.Common.{◌≡◌, ℕ, suc, ◌+◌, ◌-◌, ◌≤◌, ◌<◌, List, [], ◌∷◌, ◌++◌, Bool, refl, ap, subst, sym, ◌∙◌, arith, length, le-ltb, get_or, slice_get, inl, inr}
-use Rattle.std.specs.Prelude.{◌⊎◌, Option, Some, None, nat_lt, if◌then◌else◌}
+use Rattle.std.specs.Prelude.{◌⊎◌, Option, Some, None, if◌then◌else◌}
 use Rattle.std.proofs.lemmas.List.{length-append}
 use Rattle.std.proofs.lemmas.Option.{none-some, same_Some, slice_get_cases}
 use Rattle.il_core.specs.declared.instr.Block.{Block}

@@ -1,8 +1,7 @@
 -- The instructions of a routine with a callee in it are within the limits.
-use Rattle.std.proofs.Common.{◌≡◌, ℕ, suc, ◌+◌, ◌≤◌, List, [], ◌∷◌, ◌++◌, map, ap, subst, arith, length}
+use Rattle.std.proofs.Common.{◌≡◌, ℕ, suc, ◌+◌, List, [], ◌∷◌, ◌++◌, map, ap, arith, length}
 use Rattle.std.specs.Prelude.{Option, Some, None}
 use Rattle.std.specs.List.{AllByRecursion}
-use Rattle.std.proofs.lemmas.List.{length-map}
 use Rattle.il_core.specs.declared.instr.Block.{Block}
 use Rattle.il_core.specs.declared.instr.End.{End}
 use Rattle.il_core.specs.declared.instr.End.TheVariants as ends
@@ -12,7 +11,7 @@ use Rattle.il_core.specs.Limits.{IsInstr, IsBlock}
 use Rattle.il_core.specs.Operands.{Names, renamed}
 use Rattle.il_core.specs.Routine.{RoutineParts}
 use Rattle.il_core.specs.World.{each}
-use Rattle.il_laws.specs.Splice.{Site, moved, moved_block, passed, handed, copied, raised, entering, resuming, copies, spliced_blocks}
+use Rattle.il_laws.specs.Splice.{Site, moved_block, passed, handed, copied, raised, entering, resuming, copies, spliced_blocks}
 use Rattle.il_laws.proofs.SpliceBlocks.{call_of, site_block, blocks_with, all_front, all_rest, all_append}
 
 abbrev AreWithin : List Block → Type 0

@@ -168,7 +168,13 @@ fn put_site(
     let Some((call, after)) = rest.split_first_mut() else {
         return Ok(());
     };
-    let Instr::Call { dest, count, args, .. } = call else {
+    let Instr::Call {
+        dest,
+        count,
+        args,
+        ..
+    } = call
+    else {
         return Ok(());
     };
     let b = place.block as u32;
@@ -208,12 +214,7 @@ fn entering(
     let mut instrs = Vec::with_capacity(alloc, room)?;
     put_instrs(&mut instrs, before)?;
     instrs.push(Instr::Turn)?;
-    instrs.push(Instr::Clear(
-        by.regs,
-        callee.regs,
-        by.arrays,
-        callee.arrays.len() as u32,
-    ))?;
+    instrs.push(Instr::Clear(by.regs, callee.regs, by.arrays, callee.arrays.len() as u32))?;
     put_passed(&mut instrs, args, by.regs)?;
     Ok(Block {
         instrs: Seq::from_vec(instrs),

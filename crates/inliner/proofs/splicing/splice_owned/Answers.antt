@@ -1,9 +1,5 @@
-use Rattle.std.proofs.Common.{◌≡◌, ◌∙◌, List, ap, sym, subst}
-use Rattle.std.specs.Prelude.{Some, None}
-use Rattle.il_core.specs.declared.instr.Block.{Block}
-use Rattle.il_core.specs.contracts.routine.Routine.{the_view}
+use Rattle.std.proofs.Common.{◌≡◌, ◌∙◌, ap, sym}
 use Rattle.il_core.specs.Routine.{RoutineParts}
-use Rattle.inliner.specs.Places.{site_place}
 use Rattle.inliner.proofs.Owned.{unchanged, is_there, made, refused, crowded}
 use Rattle.inliner.proofs.splicing.splice_owned.Goals as goal
 
