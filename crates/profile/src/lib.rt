@@ -6,8 +6,10 @@ mod counts;
 mod fault;
 mod line;
 mod reading;
+mod scaling;
 mod tally;
 
 pub use counts::Profile;
 pub use fault::ProfFault;
 pub use reading::read;
+pub use scaling::scale;
