@@ -40,7 +40,12 @@ pub fn fold_branches_owned(alloc: Global, r: Routine) -> Result<Routine, AllocEr
     let mut blocks = blocks.into_vec();
     let mut flow = Flow::new(alloc, params, regs, blocks.as_slice())?;
     let mut table = flow.table(alloc)?;
-    fold_blocks(alloc, &mut flow, table.as_mut_slice(), blocks.as_mut_slice())?;
+    fold_blocks(
+        alloc,
+        &mut flow,
+        table.as_mut_slice(),
+        blocks.as_mut_slice(),
+    )?;
     Ok(Routine {
         pid,
         params,

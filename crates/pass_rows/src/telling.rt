@@ -58,8 +58,16 @@ fn summary(alloc: Global, routine: &Routine) -> Result<Summary, AllocError>
 fn tell_summary(summary: &Summary, shown: &mut Vec<u8>) -> Result<(), AllocError> {
     let s = summary;
     let mut line = String::new(*shown.allocator());
-    write!(line, "{}: size {} charge {} params {}", s.pid, s.size, s.charge, s.params)?;
-    write!(line, " returns {} regs {} arrays {}", s.returns, s.regs, s.arrays)?;
+    write!(
+        line,
+        "{}: size {} charge {} params {}",
+        s.pid, s.size, s.charge, s.params
+    )?;
+    write!(
+        line,
+        " returns {} regs {} arrays {}",
+        s.returns, s.regs, s.arrays
+    )?;
     write!(line, " elements {} entry {}", s.elements, s.entry)?;
     shown.extend_from_slice(line.as_bytes())?;
     for read in s.reads.as_slice() {
