@@ -1,7 +1,11 @@
 pub mod Events
+pub mod Homes
 pub mod Inserts
 pub mod Reloads
+pub mod Removals
 pub mod Rows
 pub mod Unpins
 pub mod Views
+pub mod Waves
 pub mod Wholes
+pub mod Writes

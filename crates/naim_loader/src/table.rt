@@ -108,4 +108,18 @@ impl<T: Drop, B: Drop> Table<T, B> {
         let row = &mut self.rows[slot as usize];
         row.1 = entry;
     }
+
+    /// Takes the entry of a PID out. The last row takes its place. Constant time.
+    pub(crate) fn remove(&mut self, pid: u32)
+        requires { IsSome (lookup (nat_eq pid) self.old) }
+        ensures { Renews self.old self.new pid None }
+    {
+        let slot = self.index[pid as usize].unwrap();
+        let _ = self.rows.swap_remove(slot as usize);
+        self.index[pid as usize] = None;
+        let Some(row) = self.rows.get(slot as usize) else {
+            return;
+        };
+        self.index[row.0 as usize] = Some(slot);
+    }
 }
