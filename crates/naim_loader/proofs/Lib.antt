@@ -1,4 +1,6 @@
+pub mod Ends
 pub mod Events
+pub mod Evictions
 pub mod Homes
 pub mod Inserts
 pub mod Reloads

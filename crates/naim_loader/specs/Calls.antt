@@ -1,5 +1,5 @@
 -- What the loader's calls answer.
-use Rattle.std.specs.Prelude.{◌≡◌, ◌≤◌, ◌*◌, ◌^◌, ◌⊎◌, ℕ, Bool, true, false, cond, List, [], ◌∷◌, ◌++◌, Option, Some, None, IsSome, Ok, Err, IsOk, Result, Vec, is_some, is_none, length, nat_eq, slice_get, ⊤, option_map}
+use Rattle.std.specs.Prelude.{◌≡◌, ◌≤◌, ◌+◌, ◌*◌, ◌^◌, ◌⊎◌, ℕ, Bool, true, false, cond, List, [], ◌∷◌, ◌++◌, Option, Some, None, IsSome, Ok, Err, IsOk, Result, Vec, is_some, is_none, length, nat_eq, slice_get, ⊤, option_map}
 use Rattle.std.specs.Arc.{arc_value}
 use Rattle.repository.specs.Record.{HasBytes}
 use Rattle.repository.specs.Filing.{record_of}
@@ -92,11 +92,13 @@ module _ {T B D : Type 0} (charge : T → ℕ) (spell : T → List ℕ) (bytes :
   IsPin old p mode.Read (pin.Write x) = ⊥
   IsPin old p (mode.Write room) (pin.Read x) = ⊥
 
-  -- the record of the value r of p, handed out with the disk, which has its bytes if it is trusted
+  -- the record of the value r of p, below the places that a disk has to reach, handed out with the disk, which has its bytes
+  -- if it is trusted
   pub record HandsRecord (old : Paged T B D) (p : ℕ) (number : ℕ) (d : D) (r : T) : Type 0 where
     pub content : content_at old p ≡ Some r
     pub charge_is : number ≡ charge r
     pub disk_is : d ≡ old.disk
+    pub within : p * old.core.limit + length (spell r) ≤ 131072 * old.core.limit
     pub there : IsTrusted reach honest old → HasBytes (bytes d) (p * old.core.limit) (spell r)
 
   -- what is handed out to be made the body of p: the bytes or the record of the value that the contents have

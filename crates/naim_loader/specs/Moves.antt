@@ -24,6 +24,8 @@ use Rattle.naim_loader.specs.declared.forms.Pin.{Pin}
 use Rattle.naim_loader.specs.declared.forms.Pin.TheVariants as pin
 use Rattle.naim_loader.specs.declared.forms.PinAnswer.{PinAnswer}
 use Rattle.naim_loader.specs.declared.forms.PinAnswer.TheVariants as answer
+use Rattle.naim_loader.specs.declared.table.Lying.{Lying}
+use Rattle.naim_loader.specs.declared.table.Lying.TheVariants as lying
 use Rattle.naim_loader.specs.Calls.{Back, KeepsAt, Stopped, disk_of}
 use Rattle.naim_loader.specs.Paged.{Paged, kept_at, content_at, Changes, IsTrusted, Steps}
 use Rattle.naim_loader.specs.Rows.{Kept}
@@ -69,6 +71,12 @@ module _ {T B D : Type 0} (spell : T → List ℕ) where
   EndsCompaction old w (move.Compacting p a) bytes = IsMoving old.core w p (λ st. st ≡ stage.Compacting) × (content_at old p ≡ Some (arc_value a)) × (bytes ≡ spell (arc_value a))
   EndsCompaction old w _ bytes = ⊥
 
+-- a reload
+abbrev pub is_reload : {T D : Type 0} → Move T D → Bool
+is_reload (move.FromBytes p b) = true
+is_reload (move.FromDisk p filed number d) = true
+is_reload _ = false
+
 -- the stage of a pool that is reloaded: for reading exactly where a second share of the body is there, and from the disk or not
 abbrev pub IsReloadingFor : {T : Type 0} → Option (Arc T Global) → Bool → Stage → Type 0
 IsReloadingFor (Some a) from_disk st = st ≡ stage.Reloading mode.Read from_disk
@@ -81,7 +89,31 @@ IsPinWith (Some a) p r (pin.Write x) = ⊥
 IsPinWith None p r (pin.Read x) = ⊥
 IsPinWith None p r (pin.Write x) = (x.pid ≡ p) × (arc_value x.body ≡ r)
 
+-- how the pool's body lies after it: whole where a second share is there, and with the worker otherwise
+abbrev pub LiesWith : {T : Type 0} → Option (Arc T Global) → Lying T → T → Type 0
+LiesWith (Some a) (lying.Whole b) r = arc_value b ≡ r
+LiesWith (Some a) _ r = ⊥
+LiesWith None b r = ⊤
+
+module _ {T B D : Type 0} (spell : T → List ℕ) (bytes : D → Option (List ℕ)) (reach : D → ℕ) (honest : D → Bool) where
+  -- The worker offloads that pool, has its bytes and its place, and brings the record of these bytes there; a trusted
+  -- disk has them there, and elsewhere what it told when it was lent.
+  abbrev pub EndsOffload : Paged T B D → ℕ → Move T D → Filed → Type 0
+  EndsOffload old w (move.Offloading p place b d) filed =
+      IsMoving old.core w p (λ st. st ≡ stage.Offloading) × (place ≡ p * old.core.limit) × (filed ≡ record_of place b.items)
+      × ((k : T) × (content_at old p ≡ Some k) × (b.items ≡ spell k))
+      × (IsTrusted reach honest old → Overwrites (bytes old.disk) (bytes d) place (length b.items) b.items)
+  EndsOffload old w _ filed = ⊥
+
 module _ {T B D : Type 0} (charge : T → ℕ) (spell : T → List ℕ) (bytes : D → Option (List ℕ)) (reach : D → ℕ) (honest : D → Bool) where
+  -- The value r that a reload brings, of the pool p, which has the value k: it has the spelling of k where it came from
+  -- memory; and where it came from the disk, it has the charge and length of k, and a trusted disk, which has what it told
+  -- when it was lent, has the spelling of r at the record's place.
+  abbrev pub Brings : Paged T B D → ℕ → Option D → T → T → Type 0
+  Brings old p None r k = spell r ≡ spell k
+  Brings old p (Some d) r k = (charge r ≡ charge k) × (length (spell r) ≡ length (spell k))
+      × (IsTrusted reach honest old → SamePlaces (bytes old.disk) (bytes d) × HasBytes (bytes d) (p * old.core.limit) (spell r))
+
   -- The worker reloads that pool, has its bytes or its record, and brings a body: of those bytes; or of the record's
   -- length and charge, and over a trusted disk, which has what it told when it was lent, of the bytes at the record's
   -- place.
@@ -95,6 +127,7 @@ module _ {T B D : Type 0} (charge : T → ℕ) (spell : T → List ℕ) (bytes :
   EndsReload old w (move.Compacting p a) r again = ⊥
   EndsReload old w (move.Offloading p place b d) r again = ⊥
 
+module _ {T B D : Type 0} (charge : T → ℕ) (spell : T → List ℕ) (reach : D → ℕ) (honest : D → Bool) where
   -- A reload has ended: the pool has the body that was brought, of its charge and compact length. Where it came from
   -- bytes in memory, or the disk is trusted, that is the value that it had.
   pub record Reloads (old new : Paged T B D) (w p : ℕ) (d : Option D) (r : T) : Type 0 where
@@ -113,17 +146,13 @@ module _ {T B D : Type 0} (charge : T → ℕ) (spell : T → List ℕ) (bytes :
   AnswersReload old new w m r again answer.Stopped = Back old (disk_of m) new
   AnswersReload old new w m r again _ = ⊥
 
-  -- The worker offloads that pool, has its bytes and its place, and brings the record of these bytes there; a trusted
-  -- disk has them there, and elsewhere what it told when it was lent.
-  abbrev pub EndsOffload : Paged T B D → ℕ → Move T D → Filed → Type 0
-  EndsOffload old w (move.Offloading p place b d) filed =
-      IsMoving old.core w p (λ st. st ≡ stage.Offloading) × (place ≡ p * old.core.limit) × (filed ≡ record_of place b.items)
-      × ((k : T) × (content_at old p ≡ Some k) × (b.items ≡ spell k))
-      × (IsTrusted reach honest old → Overwrites (bytes old.disk) (bytes d) place (length b.items) b.items)
-  EndsOffload old w _ filed = ⊥
-
 -- an offload has ended: the disk that came home has the pool, and nothing else has changed
 pub record Offloads {T B D : Type 0} (old new : Paged T B D) (w p : ℕ) (d : D) : Type 0 where
   pub event : Changes old (event.OffloadEnd w p) new
   pub disk_is : new.disk ≡ d
   pub kept_same : new.kept ≡ old.kept
+
+-- that end of an offload
+abbrev pub OffloadsFrom : {T B D : Type 0} → Paged T B D → Paged T B D → ℕ → Move T D → Type 0
+OffloadsFrom old new w (move.Offloading p place b d) = Offloads old new w p d
+OffloadsFrom old new w _ = ⊥

@@ -66,3 +66,14 @@ pub(crate) fn bring_with<T: Drop, D: Drop>(home: &mut Home<D>, m: Move<T, D>)
         } => bring(home, disk),
     }
 }
+
+/// Brings the disk home, if one comes.
+pub(crate) fn bring_if<D: Drop>(home: &mut Home<D>, disk: Option<D>)
+    requires { is_some disk ≡ true → is_home home.old ≡ false }
+    ensures disk { told home.new ≡ unwrap_or disk (told home.old) }
+    ensures home { is_home home.new ≡ (is_some disk || is_home home.old) }
+{
+    if let Some(disk) = disk {
+        bring(home, disk);
+    }
+}

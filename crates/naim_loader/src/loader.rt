@@ -5,9 +5,12 @@ ghost use Rattle.naim_core.specs.State.{pool_at, view_of};
 ghost use Rattle.naim_loader.specs.Calls.{brief_at};
 ghost use Rattle.naim_loader.specs.Paged.{fresh, kept_at};
 
+mod evicts;
 mod fails;
 mod inserts;
+mod moves;
 mod reads;
+mod reloads;
 mod removes;
 mod unpins;
 mod waves;
@@ -129,7 +132,7 @@ impl<T: Poolable + Drop, B: Drop, D: Disk + Drop> Loader<T, B, D> {
     }
 
     /// Whether a failure is kept.
-    fn is_stopped(&self) -> bool
+    pub(super) fn is_stopped(&self) -> bool
         ensures kept { result ≡ is_some self.now.core.failure }
         ensures sound { IsSound self.now.core }
     {
