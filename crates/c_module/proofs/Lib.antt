@@ -1,2 +1,4 @@
 pub mod Elements
 pub mod Modules
+pub mod Ready
+pub mod Uncounted
