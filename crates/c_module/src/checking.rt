@@ -8,8 +8,12 @@ ghost use Rattle.c_module.specs.Told.{AreQuiet, AreRefused, AreWellFormedTexts};
 ghost use Rattle.c_module.specs.Verdict.{IsProgramCause, IsUnread, IsWant, Passes};
 
 use crate::fault::ProgramFault;
+use crate::lowering::lowered_module;
 use hlo_words::FileName;
+use linker::link_check;
 use outside::Shelf;
+use profile::Profile;
+use program_laws::typed_programs_are_whole;
 use std::alloc::Global;
 use sym_tables::ProgramSyms;
 
@@ -36,9 +40,38 @@ pub fn check_modules<'a, S: Shelf>(
     ensures same { SameFiles (S.tells shelf.old) (S.tells shelf.new) }
     ensures counts { NoneFalls (S.faults shelf.old) (S.faults shelf.new) }
 {
-    let _ = alloc;
-    let _ = files;
-    let _ = shelf;
-    let _ = syms;
-    Err(ProgramFault::Memory)
+    check_in_order(alloc, files, shelf, syms)
+}
+
+/// The files in order, and then linking: what the answer says of them. Files are numbered from 1; of more than there are
+/// numbers, `Memory` is told.
+fn check_in_order<'a, S: Shelf>(
+    alloc: Global,
+    files: &'a [FileName],
+    shelf: &mut S,
+    syms: &mut ProgramSyms,
+) -> Result<(), ProgramFault<'a>>
+    requires { syms.old ≡ [] }
+    ensures ok { IfOk result (λ _. Passes (S.tells shelf.old) files.now syms.new) }
+    ensures err { IfErr result (λ fault. IsProgramCause fault files.now (S.tells shelf.old) (S.faults shelf.old) (S.faults shelf.new) syms.new) }
+    ensures same { SameFiles (S.tells shelf.old) (S.tells shelf.new) }
+    ensures counts { NoneFalls (S.faults shelf.old) (S.faults shelf.new) }
+{
+    typed_programs_are_whole();
+    let p = Profile::flat();
+    let mut number = 0;
+    for file in files {
+        let name = file.as_str();
+        if number == u32::MAX {
+            return Err(ProgramFault::Memory);
+        }
+        number += 1;
+        if let Err(fault) = lowered_module(alloc, shelf, name, number, syms, &p) {
+            return Err(ProgramFault::File(name, fault));
+        }
+    }
+    match link_check(syms) {
+        Ok(_) => Ok(()),
+        Err(fault) => Err(ProgramFault::Link(fault)),
+    }
 }
