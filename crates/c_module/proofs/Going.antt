@@ -265,24 +265,27 @@ module _ (tells : List ℕ → Told) (files : List (List ℕ)) (k : ℕ) (name :
   so_many modules held = as_many tells (take k files) modules held ∙ length-take-le k files (omega (arith, less))
 
   -- it is the text of a module that is well formed, and so were those before it
-  pub up_to_next : (syms new : Table) (number : ℕ) (told : Told) (t : TypedModule) → Passed tells (take k files) syms → number ≡ suc k → told ≡ tells name → HoldsTyped number syms told t new → AllByRecursion KeepsLimits (functions_in t) → Passed tells (take (k + 1) files) new
-  up_to_next syms new number told t passed is_number same held kept =
-      let modules = passed.modules ++ held.found ∷ [] in
+  pub hold_more : (modules : List Module) (ts : List TypedModule) (syms new : Table) (number : ℕ) (told : Told) (t : TypedModule) → HoldWellFormed tells (take k files) modules ts syms → number ≡ suc k → told ≡ tells name → (held : HoldsTyped number syms told t new) → AllByRecursion KeepsLimits (functions_in t)
+      → HoldWellFormed tells (take (k + 1) files) (modules ++ held.found ∷ []) (ts ++ t ∷ []) new
+  hold_more modules ts syms new number told t hold is_number same held kept =
       let more : take k files ++ name ∷ [] ≡ take (k + 1) files = ap (λ x. take k files ++ x ∷ []) is ∙ sym (take_more files k name less) in
-      let next : number ≡ 1 + length passed.modules = omega (arith, so_many passed.modules passed.hold.held, is_number) in
-      let typed = typed_more 1 number [] passed.modules passed.ts syms held.found t held.here next passed.hold.formed.typed held.typed in
+      let next : number ≡ 1 + length modules = omega (arith, so_many modules hold.held, is_number) in
+      let typed = typed_more 1 number [] modules ts syms held.found t held.here next hold.formed.typed held.typed in
       record {
-        modules = modules;
-        ts = passed.ts ++ t ∷ [];
-        hold = record {
-          held = subst (λ l. HoldModules tells l modules) more
-              (one_more tells (take k files) passed.modules name held.found passed.hold.held (subst (λ d. HoldsModule d held.found) same held.held));
-          formed = record {
-            typed = subst (λ s. AreTypedAs 1 [] modules (passed.ts ++ t ∷ []) s) (sym held.names) typed;
-            limits = subst (AllByRecursion KeepsLimits) (sym (functions_more passed.ts t)) (all_both KeepsLimits (functions_of passed.ts) (functions_in t) passed.hold.formed.limits kept);
-          };
+        held = subst (λ l. HoldModules tells l (modules ++ held.found ∷ [])) more
+            (one_more tells (take k files) modules name held.found hold.held (subst (λ d. HoldsModule d held.found) same held.held));
+        formed = record {
+          typed = subst (λ s. AreTypedAs 1 [] (modules ++ held.found ∷ []) (ts ++ t ∷ []) s) (sym held.names) typed;
+          limits = subst (AllByRecursion KeepsLimits) (sym (functions_more ts t)) (all_both KeepsLimits (functions_of ts) (functions_in t) hold.formed.limits kept);
         };
       }
+
+  pub up_to_next : (syms new : Table) (number : ℕ) (told : Told) (t : TypedModule) → Passed tells (take k files) syms → number ≡ suc k → told ≡ tells name → HoldsTyped number syms told t new → AllByRecursion KeepsLimits (functions_in t) → Passed tells (take (k + 1) files) new
+  up_to_next syms new number told t passed is_number same held kept = record {
+    modules = passed.modules ++ held.found ∷ [];
+    ts = passed.ts ++ t ∷ [];
+    hold = hold_more passed.modules passed.ts syms new number told t passed.hold is_number same held kept;
+  }
 
   -- going over the files ends at it
   pub ends_here : (first before after : List ℕ → ℕ) (told : Told) (syms known : Table) (number : ℕ) (fault : FileFault) → Passed tells (take k files) syms → number ≡ suc k → told ≡ tells name → first name ≤ before name → IsCause number syms fault told (before name) (after name) known → EndsAt tells first after files name fault known

@@ -1,4 +1,4 @@
-pub mod Assembling
+pub mod Assembled
 pub mod Elements
 pub mod Going
 pub mod Lowered

@@ -30,7 +30,7 @@ in_table : (syms : Table) (pid : ℕ) (entity : Entity) (o : Option Symbol) → 
 in_table syms pid entity None there is = absurd (let c : None ≡ Some entity = is in cc)
 in_table syms pid entity (Some s) there is = omega (arith, slice_get_within (values_of syms) pid s there, length-values_of syms)
 
-all_ready : (syms : Table) (fs : List Function) → AllByRecursion (Stands syms) fs → AllByRecursion IsBound fs → AllByRecursion (IsReady syms) fs
+pub all_ready : (syms : Table) (fs : List Function) → AllByRecursion (Stands syms) fs → AllByRecursion IsBound fs → AllByRecursion (IsReady syms) fs
 all_ready syms [] stands bound = tt
 all_ready syms (f ∷ fs) stands bound = (
   record { live = in_table syms f.pid stands.0.entity (symbol_at syms f.pid) refl stands.0.is; bound = bound.0 },

@@ -1,4 +1,5 @@
 pub mod Appending
+pub mod Assembling
 pub mod Files
 pub mod Limits
 pub mod ModuleFaults

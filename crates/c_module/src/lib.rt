@@ -2,6 +2,7 @@
 //! lowered program of modules that link.
 #![tactic(auto)]
 
+mod assembling;
 mod checking;
 mod fault;
 mod lowering;

@@ -22,8 +22,8 @@ loop-file-preserved g c =
     let is = subst (λ n. n ≡ get_or c.args.files.now c.loop-file.file-index n) (sym c.as_str-name.ensures) c.file-item.is in
     let held = c.in_default.ensures.ok in (
       up_to_next (g.S.Shelf.tells c.args.shelf.now) c.args.files.now c.loop-file.file-index name c.loop-file-test.true is
-      c.loop-file.syms c.lowered_module.new.syms (c.loop-file.number + 1) (g.S.Shelf.tells c.loop-file.shelf name) held.typed_as
-      known.0 (omega (arith, known.3)) (known.1 name) held.typed held.limits,
+          c.loop-file.syms c.lowered_module.new.syms (c.loop-file.number + 1) (g.S.Shelf.tells c.loop-file.shelf name) held.typed_as
+          known.0 (omega (arith, known.3)) (known.1 name) held.typed held.limits,
       λ n. c.lowered_module.ensures.same n ∙ known.1 n,
       λ n. le_trans (known.2 n) (c.lowered_module.ensures.counts n),
       omega (arith, known.3),
