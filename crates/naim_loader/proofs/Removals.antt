@@ -156,11 +156,13 @@ module _ {X : Type 0} where
           (let was = t.found q j (sym (get_other index p q None m.1) ∙ sym (get_other index' l q (Some i) n.1) ∙ h) in
           let within = slice_get_within rows j (q, was.0) was.1 in
           let other : j ≢ i = λ k. m.1 (same_pid rows i p q e was.0 at (ap (slice_get rows) (sym k) ∙ was.1)) in
-          let short = slice_get_within rows' i (l, y) here in let s = w.shorter in
-          (was.0, elim (eqb_tells (j + 1) (length rows)) [
-            | inl z ↦ absurd (n.1 (same_pid rows' i l q y was.0 here (w.last j (q, was.0) (omega arith) z.1 was.1)))
-            | inr z ↦ w.others j (q, was.0) other (let k = z.1 in omega arith) was.1
-          ]))
+          let short = slice_get_within rows' i (l, y) here in let s = w.shorter in (
+            was.0,
+            elim (eqb_tells (j + 1) (length rows)) [
+              | inl z ↦ absurd (n.1 (same_pid rows' i l q y was.0 here (w.last j (q, was.0) (omega arith) z.1 was.1)))
+              | inr z ↦ w.others j (q, was.0) other (let k = z.1 in omega arith) was.1
+            ],
+          ))
 
 module _ {T B D : Type 0} (charge : T → ℕ) (spell : T → List ℕ) (is_value : T → Type 0) (bytes : D → Option (List ℕ)) (reach : D → ℕ) (honest : D → Bool) where
   abbrev Whole : ℕ → Core → List (ℕ × Entry T B) → Home D → D → Counters → Type 0

@@ -27,7 +27,11 @@ impl<T: Poolable + Drop, B: Drop, D: Disk + Drop> Loader<T, B, D> {
         ensures sound { IsSound self.new.core }
     {
         let tasks = Seq::from_vec(tasks);
-        let _ = step(&mut self.core, &mut self.counters, Event::BeginWave { tasks });
+        let _ = step(
+            &mut self.core,
+            &mut self.counters,
+            Event::BeginWave { tasks },
+        );
     }
 
     /// Ends the wave, whose tasks are done. Once a failure is kept, nothing changes. It takes linear time

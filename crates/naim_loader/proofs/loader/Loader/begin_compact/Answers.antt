@@ -56,8 +56,7 @@ returns-clause-answer g c =
     let put = c.in-Whole.ensures in
     let l = put_lies _ _ _ _ _ _ c.self.inside.limit s c.self.inside.table c.put.new.self c.self.inside.disk _ c.self.inside.counters p x lying.Out (lying.Whole c.in-Whole.body) c.self.invariant none at put in
     let same = subst (λ z. LiesAs g.T.Poolable.encoding (p * c.self.inside.limit) z (lying.Whole c.in-Whole.body) put.entry.value.value) c.requires.pool.2 l in
-    let content = ap (λ z. content_at z p) (sym c.self.view_is) ∙ ap (option_map (λ z. z.value)) (kept_lookup c.self.inside.table p ∙ ap (option_map kept_of) put.at) ∙ ap (λ z. Some z) (sym same) in
-    (
+    let content = ap (λ z. content_at z p) (sym c.self.view_is) ∙ ap (option_map (λ z. z.value)) (kept_lookup c.self.inside.table p ∙ ap (option_map kept_of) put.at) ∙ ap (λ z. Some z) (sym same) in (
       c.requires.wanted,
       (
         c.requires.victim,

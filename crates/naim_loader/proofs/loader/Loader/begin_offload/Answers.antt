@@ -34,8 +34,7 @@ returns-in_default-clause-answer g c =
     let last = ap (λ z. victim z.core.pools) c.self.view_is ∙ c.requires.victim in
     let room = subst (λ z. z.core.limit < under_sum z.core.pools + c.args.wanted) (sym c.self.view_is) c.requires.wanted in
     let f = c.in_default.ensures.refused in
-    let out = offload_begin_refused s w p c.args.wanted x c.in_default.field-0 none at c.requires.pool.2 free last room f.step in
-    (
+    let out = offload_begin_refused s w p c.args.wanted x c.in_default.field-0 none at c.requires.pool.2 free last room f.step in (
       same_view c.args.self.now _ c.step.new.core c.step.new.counters c.self.view_is f.same f.counts,
       c.requires.wanted,
       (p, c.requires.victim, ap (λ z. step_of z.core (event.OffloadBegin w p c.args.wanted)) (sym c.self.view_is) ∙ f.step ∙ ap (λ z. Err z) out),
@@ -88,8 +87,7 @@ returns-clause-answer g c =
     let limit = sym c.self.invariant.limit_is ∙ ap (λ z. z.core.limit) c.self.view_is in
     let short = (c.self.invariant.sound.forms_fit p x at).within in
     let long = its_length c.self.inside.table p x.c th.entry put.entry (length c.in-Packed.bytes.items) g.T.Poolable.encoding th.at put.at th.standing.length_is (ap length same) in
-    let within = place_within p c.self.inside.limit (length c.in-Packed.bytes.items) th.standing.below (let e = c.self.invariant.limit_is in omega arith) in
-    (
+    let within = place_within p c.self.inside.limit (length c.in-Packed.bytes.items) th.standing.below (let e = c.self.invariant.limit_is in omega arith) in (
       c.requires.wanted,
       (
         c.requires.victim,

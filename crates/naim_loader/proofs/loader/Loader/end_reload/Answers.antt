@@ -67,7 +67,7 @@ returns-clause-reloads g c =
     (reload_lent g.T.Poolable.charge_of g.T.Poolable.encoding g.D.Disk.bytes g.D.Disk.reach g.D.Disk.honest c.args.self.now _ c.self.inside.limit p o _ r put.entry.value.value c.self.view_is c.self.invariant.limit_is c.requires.disk brings c.self.invariant.good c.bring_if.ensures.disk) in
     let d = reload_end_did s c.step.new.core w p c.self.invariant.sound none c.in-Ok.ensures.taken.step in
     let trusted = λ (good : IsGood g.D.Disk.reach g.D.Disk.honest c.args.self.now.core.limit c.args.self.now.first). subst (λ n. IsGood g.D.Disk.reach g.D.Disk.honest n c.self.inside.first.value) c.self.invariant.limit_is
-        (subst (λ z. IsGood g.D.Disk.reach g.D.Disk.honest z.core.limit z.first) (sym c.self.view_is) good) in
+    (subst (λ z. IsGood g.D.Disk.reach g.D.Disk.honest z.core.limit z.first) (sym c.self.view_is) good) in
     record {
       was = kept_of put.entry;
       there = kept_row c.args.self.now _ c.self.inside.table p (Some put.entry) c.self.view_is refl put.at;

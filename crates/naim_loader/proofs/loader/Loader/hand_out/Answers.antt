@@ -52,8 +52,7 @@ returns-clause-answer g c =
     let put = c.in-Whole.ensures in
     let l = put_lies _ _ _ _ _ _ c.self.inside.limit s c.self.inside.table c.put.new.self c.self.inside.disk _ c.self.inside.counters p c.requires.pool.0 lying.Out (lying.Whole c.in-Whole.body) c.self.invariant none at put in
     let same = subst (λ z. LiesAs g.T.Poolable.encoding (p * c.self.inside.limit) z (lying.Whole c.in-Whole.body) put.entry.value.value) c.requires.pool.2 l in
-    let content = ap (λ z. content_at z p) (sym c.self.view_is) ∙ ap (option_map (λ z. z.value)) (kept_lookup c.self.inside.table p ∙ ap (option_map kept_of) put.at) ∙ ap (λ z. Some z) (sym same) in
-    (
+    let content = ap (λ z. content_at z p) (sym c.self.view_is) ∙ ap (option_map (λ z. z.value)) (kept_lookup c.self.inside.table p ∙ ap (option_map kept_of) put.at) ∙ ap (λ z. Some z) (sym same) in (
       steps_view c.args.self.now _ (event.PinWrite c.args.worker p c.args.room) c.step.new.core c.step.new.counters _ _ _ c.self.view_is t put.kept refl (c.self.invariant.home none ∙ ap is_none (sym d.turned.disk_is)),
       (refl, content),
     )

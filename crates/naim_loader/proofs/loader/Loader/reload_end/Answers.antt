@@ -23,10 +23,9 @@ pub end_reload-requires-clause-disk : goal.end_reload-requires-clause-disk
 end_reload-requires-clause-disk g c = subst (ComesBack g.D.Disk.reach g.D.Disk.honest c.args.self.now) (sym c.into_reload-pid.ensures.disk) c.requires.disk
 
 pub returns-clause-answer : goal.returns-clause-answer
-returns-clause-answer g c =
-    (
-      subst (λ p. Reloads g.T.Poolable.charge_of g.T.Poolable.encoding g.D.Disk.reach g.D.Disk.honest c.args.self.now c.end_reload.new.self c.args.worker p (disk_of c.args.m) (arc_value c.args.body)) c.into_reload-pid.ensures.pid
-          (subst (λ o. Reloads g.T.Poolable.charge_of g.T.Poolable.encoding g.D.Disk.reach g.D.Disk.honest c.args.self.now c.end_reload.new.self c.args.worker c.into_reload-pid.result.0 o (arc_value c.args.body)) c.into_reload-pid.ensures.disk
-          (subst (Reloads g.T.Poolable.charge_of g.T.Poolable.encoding g.D.Disk.reach g.D.Disk.honest c.args.self.now c.end_reload.new.self c.args.worker c.into_reload-pid.result.0 c.into_reload-pid.result.1) (c.of-value.ensures ∙ c.deref.ensures) c.end_reload.ensures.reloads)),
-      subst (λ p. IsPinWith c.args.again p (arc_value c.args.body) c.spread-lying.result.1) c.into_reload-pid.ensures.pid c.spread-lying.ensures.pin,
-    )
+returns-clause-answer g c = (
+  subst (λ p. Reloads g.T.Poolable.charge_of g.T.Poolable.encoding g.D.Disk.reach g.D.Disk.honest c.args.self.now c.end_reload.new.self c.args.worker p (disk_of c.args.m) (arc_value c.args.body)) c.into_reload-pid.ensures.pid
+      (subst (λ o. Reloads g.T.Poolable.charge_of g.T.Poolable.encoding g.D.Disk.reach g.D.Disk.honest c.args.self.now c.end_reload.new.self c.args.worker c.into_reload-pid.result.0 o (arc_value c.args.body)) c.into_reload-pid.ensures.disk
+      (subst (Reloads g.T.Poolable.charge_of g.T.Poolable.encoding g.D.Disk.reach g.D.Disk.honest c.args.self.now c.end_reload.new.self c.args.worker c.into_reload-pid.result.0 c.into_reload-pid.result.1) (c.of-value.ensures ∙ c.deref.ensures) c.end_reload.ensures.reloads)),
+  subst (λ p. IsPinWith c.args.again p (arc_value c.args.body) c.spread-lying.result.1) c.into_reload-pid.ensures.pid c.spread-lying.ensures.pin,
+)
