@@ -24,7 +24,8 @@ all_behind P [] ys all = all
 all_behind P (x ∷ xs) ys all = all_behind P xs ys all.1
 
 -- what holds of all that f makes of some elements holds of what it makes of one
-pub all_made : {X Y : Type 0} (P : Y → Type 0) (f : X → Y) (xs : List X) (k : ℕ) (x : X) → k < length xs → x ≡ get_or xs k x → AllByRecursion P (map f xs) → P (f x)
+pub all_made : {X Y : Type 0} (P : Y → Type 0) (f : X → Y) (xs : List X) (k : ℕ) (x : X) → k < length xs → x ≡ get_or xs k x
+    → AllByRecursion P (map f xs) → P (f x)
 all_made P f [] k x less at all = absurd (omega (arith, less))
 all_made P f (y ∷ ys) zero x less at all = subst (λ z. P (f z)) (sym at) all.0
 all_made P f (y ∷ ys) (suc k) x less at all = all_made P f ys k x (omega (arith, less)) at all.1
@@ -37,5 +38,6 @@ around xs k x less at =
     ∙ append_assoc (take k xs) (x ∷ []) (drop (k + 1) xs)
 
 -- and what f makes of it
-pub made_around : {X Y : Type 0} (f : X → Y) (xs : List X) (k : ℕ) (x : X) → k < length xs → x ≡ get_or xs k x → map f xs ≡ map f (take k xs) ++ f x ∷ map f (drop (k + 1) xs)
+pub made_around : {X Y : Type 0} (f : X → Y) (xs : List X) (k : ℕ) (x : X) → k < length xs → x ≡ get_or xs k x
+    → map f xs ≡ map f (take k xs) ++ f x ∷ map f (drop (k + 1) xs)
 made_around f xs k x less at = ap (map f) (around xs k x less at) ∙ map-append f (take k xs) (x ∷ drop (k + 1) xs)

@@ -1,10 +1,10 @@
 -- Going over files in order, and what each end of it says of them.
-use Rattle.std.proofs.Common.{◌≡◌, ℕ, zero, suc, ◌+◌, ◌<◌, ◌≤◌, ◌⊎◌, List, [], ◌∷◌, ◌++◌, Some, None, Result, Ok, Err, length, get_or, take, drop, map, refl, sym, ◌∙◌, ap, subst, arith, inl, inr, length-append}
-use Rattle.std.specs.Prelude.{All, Contains, IfErr, IfOk, IsErr}
+use Rattle.std.proofs.Common.{◌≡◌, ℕ, zero, suc, ◌+◌, ◌<◌, ◌≤◌, List, [], ◌∷◌, ◌++◌, Some, None, Result, Ok, Err, length, get_or, take, drop, map, refl, sym, ◌∙◌, ap, subst, arith, inl, inr, length-append}
+use Rattle.std.specs.Prelude.{All, IfErr, IfOk, IsErr}
 use Rattle.std.specs.List.{AllByRecursion}
 use Rattle.std.proofs.Math.Seq.{get_or-append_seam}
 use Rattle.std.proofs.lemmas.Grind.{flat_map-append}
-use Rattle.std.proofs.lemmas.List.{append-nil, length-take-le, take_all, take_more}
+use Rattle.std.proofs.lemmas.List.{append-nil, length-take-le, take_more}
 use Rattle.c_tree.specs.declared.declaration.Module.{Module}
 use Rattle.c_typed.specs.declared.function.TypedModule.{TypedModule}
 use Rattle.c_typed.specs.Views.{function_of, functions_of}
@@ -17,7 +17,7 @@ use Rattle.program_laws.specs.Typed.{AreTypedAs}
 use Rattle.sym_tables.specs.Table.{Table}
 use Rattle.c_module.specs.Files.{HoldsFault, HoldsModule, HoldsTyped, IsCause}
 use Rattle.c_module.specs.Limits.{AreWellFormed, KeepsLimits, functions_in}
-use Rattle.c_module.specs.Told.{AreIllFormed, AreQuiet, AreRefused, AreTextsOf, AreUnlinkedTexts, AreWellFormedTexts, HaveOther, IsTextOf}
+use Rattle.c_module.specs.Told.{AreIllFormed, AreQuiet, AreRefused, AreTextsOf, AreWellFormedTexts, HaveOther, IsTextOf}
 use Rattle.c_module.specs.Verdict.{EndsAt, HoldModules, HoldWellFormed, IsProgramCause, IsUnread, IsWant, Passes}
 use Rattle.c_module.specs.declared.fault.FileFault.{FileFault}
 use Rattle.c_module.specs.declared.fault.FileFault.TheVariants.{NoModule, CannotRead, Memory}
@@ -30,7 +30,8 @@ use Rattle.c_module.proofs.Modules.{file_has_no_fault, other_is_no_module, same_
 -- ## Files and their modules
 
 -- one more file that is the text of a module
-one_more : (tells : List ℕ → Told) (files : List (List ℕ)) (modules : List Module) (file : List ℕ) (m : Module) → HoldModules tells files modules → HoldsModule (tells file) m → HoldModules tells (files ++ file ∷ []) (modules ++ m ∷ [])
+one_more : (tells : List ℕ → Told) (files : List (List ℕ)) (modules : List Module) (file : List ℕ) (m : Module) → HoldModules tells files modules
+    → HoldsModule (tells file) m → HoldModules tells (files ++ file ∷ []) (modules ++ m ∷ [])
 one_more tells [] [] file m held h = (h, tt)
 one_more tells [] (n ∷ modules) file m held h = absurd held
 one_more tells (f ∷ files) [] file m held h = absurd held
@@ -44,7 +45,8 @@ as_many tells (f ∷ files) [] held = absurd held
 as_many tells (f ∷ files) (m ∷ modules) held = ap suc (as_many tells files modules held.1)
 
 -- each file has its module
-module_at : (tells : List ℕ → Told) (files : List (List ℕ)) (modules : List Module) (k : ℕ) (d : List ℕ) → HoldModules tells files modules → k < length files → (m : Module) × HoldsModule (tells (get_or files k d)) m
+module_at : (tells : List ℕ → Told) (files : List (List ℕ)) (modules : List Module) (k : ℕ) (d : List ℕ) → HoldModules tells files modules
+    → k < length files → (m : Module) × HoldsModule (tells (get_or files k d)) m
 module_at tells [] modules k d held h = absurd (omega (arith, h))
 module_at tells (f ∷ files) [] k d held h = absurd held
 module_at tells (f ∷ files) (m ∷ modules) zero d held h = (m, held.0)
@@ -76,7 +78,8 @@ record TextsAround (tells : List ℕ → Told) (earlier : List (List ℕ)) (file
   pub texts : AreTextsOf tells earlier first
   pub text : IsTextOf (tells file) here
 
-texts_around : (tells : List ℕ → Told) (earlier : List (List ℕ)) (file : List ℕ) (later : List (List ℕ)) (ms : List Module) → AreTextsOf tells (earlier ++ file ∷ later) ms → TextsAround tells earlier file ms
+texts_around : (tells : List ℕ → Told) (earlier : List (List ℕ)) (file : List ℕ) (later : List (List ℕ)) (ms : List Module)
+    → AreTextsOf tells (earlier ++ file ∷ later) ms → TextsAround tells earlier file ms
 texts_around tells [] file later [] texts = absurd texts
 texts_around tells [] file later (m ∷ ms) texts = record { first = []; here = m; rest = ms; whole = refl; texts = tt; text = texts.0 }
 texts_around tells (f ∷ earlier) file later [] texts = absurd texts
@@ -106,7 +109,8 @@ functions_more ts t =
     flat_map-append (λ (m : TypedModule). map function_of m.functions) ts (t ∷ []) ∙ ap (λ l. functions_of ts ++ l) (append-nil (functions_in t))
 
 -- the modules take the names to one table
-same_names : (number : ℕ) (old : Table) (ms : List Module) (ts us : List TypedModule) (a b : Table) → AreTypedAs number old ms ts a → AreTypedAs number old ms us b → a ≡ b
+same_names : (number : ℕ) (old : Table) (ms : List Module) (ts us : List TypedModule) (a b : Table) → AreTypedAs number old ms ts a
+    → AreTypedAs number old ms us b → a ≡ b
 same_names number old [] [] [] a b x y = x ∙ sym y
 same_names number old [] [] (u ∷ us) a b x y = absurd y
 same_names number old [] (t ∷ ts) us a b x y = absurd x
@@ -118,7 +122,9 @@ same_names number old (m ∷ ms) (t ∷ ts) (u ∷ us) a b (h, gives, rest) (k, 
     same_names (suc number) h.syms ms ts us a b rest (subst (λ x. AreTypedAs (suc number) x.syms ms us b) (sym s) others)
 
 -- one more module, whose number is the next one
-typed_more : (number place : ℕ) (old : Table) (ms : List Module) (ts : List TypedModule) (between : Table) (m : Module) (t : TypedModule) (h : Here) → place ≡ number + length ms → AreTypedAs number old ms ts between → module_rules place m (start between) ≡ Gives t h → AreTypedAs number old (ms ++ m ∷ []) (ts ++ t ∷ []) h.syms
+typed_more : (number place : ℕ) (old : Table) (ms : List Module) (ts : List TypedModule) (between : Table) (m : Module) (t : TypedModule) (h : Here)
+    → place ≡ number + length ms → AreTypedAs number old ms ts between → module_rules place m (start between) ≡ Gives t h
+    → AreTypedAs number old (ms ++ m ∷ []) (ts ++ t ∷ []) h.syms
 typed_more number place old [] [] between m t h at typed gives =
     let here : place ≡ number = omega (arith, at) in
     (h, ap (λ i. module_rules i m (start old)) (sym here) ∙ ap (λ s. module_rules place m (start s)) (sym typed) ∙ gives, refl)
@@ -136,7 +142,8 @@ record TypedFront (number place : ℕ) (old : Table) (ms rest : List Module) (ts
   pub before : AreTypedAs number old ms front between
   pub after : AreTypedAs place between rest behind new
 
-typed_front : (number place : ℕ) (old : Table) (ms rest : List Module) (ts : List TypedModule) (new : Table) → place ≡ number + length ms → AreTypedAs number old (ms ++ rest) ts new → TypedFront number place old ms rest ts new
+typed_front : (number place : ℕ) (old : Table) (ms rest : List Module) (ts : List TypedModule) (new : Table) → place ≡ number + length ms
+    → AreTypedAs number old (ms ++ rest) ts new → TypedFront number place old ms rest ts new
 typed_front number place old [] rest ts new at typed =
     let here : number ≡ place = omega (arith, at) in
     record { front = []; behind = ts; between = old; whole = refl; before = refl; after = subst (λ i. AreTypedAs i old rest ts new) here typed }
@@ -146,13 +153,17 @@ typed_front number place old (m ∷ ms) rest (t ∷ ts) new at (h, gives, more) 
     record { front = t ∷ r.front; behind = r.behind; between = r.between; whole = ap (λ l. t ∷ l) r.whole; before = (h, gives, r.before); after = r.after }
 
 -- the functions of the front keep the limits where all do
-front_keeps : (front behind ts : List TypedModule) → ts ≡ front ++ behind → AllByRecursion KeepsLimits (functions_of ts) → AllByRecursion KeepsLimits (functions_of front) × AllByRecursion KeepsLimits (functions_of behind)
+front_keeps : (front behind ts : List TypedModule) → ts ≡ front ++ behind → AllByRecursion KeepsLimits (functions_of ts)
+    → AllByRecursion KeepsLimits (functions_of front) × AllByRecursion KeepsLimits (functions_of behind)
 front_keeps front behind ts whole kept =
-    let both = subst (AllByRecursion KeepsLimits) (ap functions_of whole ∙ flat_map-append (λ (m : TypedModule). map function_of m.functions) front behind) kept in
+    let both = subst (AllByRecursion KeepsLimits)
+    (ap functions_of whole ∙ flat_map-append (λ (m : TypedModule). map function_of m.functions) front behind) kept in
     (all_front KeepsLimits (functions_of front) (functions_of behind) both, all_behind KeepsLimits (functions_of front) (functions_of behind) both)
 
 -- a file before which well formed modules stand has no fault where it is the text of the next of them
-next_has_no_fault : (place : ℕ) (between : Table) (told : Told) (fault : ModuleFault) (known : Table) (m : Module) (rest : List Module) (ts : List TypedModule) (new : Table) → IsTextOf told m → AreTypedAs place between (m ∷ rest) ts new → AllByRecursion KeepsLimits (functions_of ts) → HoldsFault place between told fault known → ⊥
+next_has_no_fault : (place : ℕ) (between : Table) (told : Told) (fault : ModuleFault) (known : Table) (m : Module) (rest : List Module)
+    (ts : List TypedModule) (new : Table) → IsTextOf told m → AreTypedAs place between (m ∷ rest) ts new
+    → AllByRecursion KeepsLimits (functions_of ts) → HoldsFault place between told fault known → ⊥
 next_has_no_fault place between told fault known m rest [] new text typed kept has = typed
 next_has_no_fault place between told fault known m rest (t ∷ ts) new text (h, gives, more) kept has =
     file_has_no_fault place between told fault known m t h text gives (all_front KeepsLimits (functions_in t) (functions_of ts) kept) has
@@ -162,7 +173,8 @@ next_has_no_fault place between told fault known m rest (t ∷ ts) new text (h, 
 module _ (tells : List ℕ → Told) (before after : List ℕ → ℕ) (files : List (List ℕ)) where
   -- a file among told ones that are well formed has no fault: the modules before it, by which going over the files came to
   -- it, are those that were told
-  no_fault : (names : Table) → AreWellFormedTexts tells files names → (file : List ℕ) (fault : ModuleFault) (known : Table) → EndsAt tells before after files file (NoModule fault) known → ⊥
+  no_fault : (names : Table) → AreWellFormedTexts tells files names → (file : List ℕ) (fault : ModuleFault) (known : Table)
+      → EndsAt tells before after files file (NoModule fault) known → ⊥
   no_fault names told file fault known ends =
       let x = texts_around tells ends.earlier file ends.later told.modules (subst (λ l. AreTextsOf tells l told.modules) ends.whole told.texts) in
       let formed = subst (λ l. AreWellFormed l told.ts names) x.whole told.formed in
@@ -170,19 +182,22 @@ module _ (tells : List ℕ → Told) (before after : List ℕ → ℕ) (files : 
       let many = as_many tells ends.earlier ends.modules ends.hold.held in
       let at : suc (length ends.earlier) ≡ 1 + length x.first = omega (arith, many, ap length same) in
       let y = typed_front 1 (suc (length ends.earlier)) [] x.first (x.here ∷ x.rest) told.ts names at formed.typed in
-      let between : ends.syms ≡ y.between = same_names 1 [] x.first ends.ts y.front ends.syms y.between (subst (λ l. AreTypedAs 1 [] l ends.ts ends.syms) same ends.hold.formed.typed) y.before in
+      let between : ends.syms ≡ y.between = same_names 1 [] x.first ends.ts y.front ends.syms y.between
+      (subst (λ l. AreTypedAs 1 [] l ends.ts ends.syms) same ends.hold.formed.typed) y.before in
       next_has_no_fault (suc (length ends.earlier)) y.between (tells file) fault known x.here x.rest y.behind names x.text y.after
       (front_keeps y.front y.behind told.ts y.whole formed.limits).1
       (subst (λ s. HoldsFault (suc (length ends.earlier)) s (tells file) fault known) between ends.cause)
 
   -- told files that are well formed have one table of names
-  one_table : (names : Table) → AreWellFormedTexts tells files names → (modules : List Module) (ts : List TypedModule) (syms : Table) → HoldWellFormed tells files modules ts syms → syms ≡ names
+  one_table : (names : Table) → AreWellFormedTexts tells files names → (modules : List Module) (ts : List TypedModule) (syms : Table)
+      → HoldWellFormed tells files modules ts syms → syms ≡ names
   one_table names told modules ts syms hold =
       let same = same_modules tells files told.modules modules told.texts hold.held in
       same_names 1 [] told.modules ts told.ts syms names (subst (λ l. AreTypedAs 1 [] l ts syms) same hold.formed.typed) told.formed.typed
 
   -- where told files are well formed and link, and no count rose, want of memory alone ends it
-  only_want : (fault : ProgramFault) (known : Table) → IsProgramCause fault files tells before after known → (names : Table) → AreWellFormedTexts tells files names → refusal names ≡ None → AreQuiet before after files → IsWant fault
+  only_want : (fault : ProgramFault) (known : Table) → IsProgramCause fault files tells before after known → (names : Table)
+      → AreWellFormedTexts tells files names → refusal names ≡ None → AreQuiet before after files → IsWant fault
   only_want (program.File file (NoModule fault)) known ends names told links quiet = absurd (no_fault names told file.now fault known ends)
   only_want (program.File file CannotRead) known ends names told links quiet =
       absurd (in_middle (λ f. Rose (before f) (after f) → ⊥) ends.earlier ends.later files file.now quiet ends.whole ends.cause)
@@ -194,7 +209,8 @@ module _ (tells : List ℕ → Told) (before after : List ℕ → ℕ) (files : 
   only_want program.Memory known cause names told links quiet = tt
 
   -- where no count rose, no file couldn't be read
-  none_unread : (fault : ProgramFault) (known : Table) → IsProgramCause fault files tells before after known → AreQuiet before after files → IsUnread fault → ⊥
+  none_unread : (fault : ProgramFault) (known : Table) → IsProgramCause fault files tells before after known → AreQuiet before after files
+      → IsUnread fault → ⊥
   none_unread (program.File file (NoModule fault)) known ends quiet unread = unread
   none_unread (program.File file CannotRead) known ends quiet unread =
       in_middle (λ f. Rose (before f) (after f) → ⊥) ends.earlier ends.later files file.now quiet ends.whole ends.cause
@@ -203,11 +219,15 @@ module _ (tells : List ℕ → Told) (before after : List ℕ → ℕ) (files : 
   none_unread program.Memory known cause quiet unread = unread
 
   -- the same of an answer
-  pub wants : {T : Type 0} (answer : Result T ProgramFault) (known : Table) → IfErr answer (λ fault. IsProgramCause fault files tells before after known) → (names : Table) → AreWellFormedTexts tells files names → refusal names ≡ None → AreQuiet before after files → IfErr answer IsWant
+  pub wants : {T : Type 0} (answer : Result T ProgramFault) (known : Table)
+      → IfErr answer (λ fault. IsProgramCause fault files tells before after known) → (names : Table) → AreWellFormedTexts tells files names
+      → refusal names ≡ None → AreQuiet before after files → IfErr answer IsWant
   wants (Ok x) known cause names told links quiet = tt
   wants (Err fault) known cause names told links quiet = only_want fault known cause names told links quiet
 
-  pub reads : {T : Type 0} (answer : Result T ProgramFault) (known : Table) → IfErr answer (λ fault. IsProgramCause fault files tells before after known) → AreQuiet before after files → IfErr answer (λ fault. IsUnread fault → ⊥)
+  pub reads : {T : Type 0} (answer : Result T ProgramFault) (known : Table)
+      → IfErr answer (λ fault. IsProgramCause fault files tells before after known) → AreQuiet before after files
+      → IfErr answer (λ fault. IsUnread fault → ⊥)
   reads (Ok x) known cause quiet = tt
   reads (Err fault) known cause quiet = none_unread fault known cause quiet
 
@@ -237,7 +257,8 @@ module _ (tells : List ℕ → Told) (before after : List ℕ → ℕ) (files : 
       unlinked.apart (ap refusal (sym same) ∙ passes.accepted.links)
 
   -- the same of an answer
-  pub refuses : {T : Type 0} {P : T → Type 0} (answer : Result T ProgramFault) (syms : Table) → ((x : T) → P x → Passes tells files syms) → IfOk answer P → AreRefused tells files → IsErr answer
+  pub refuses : {T : Type 0} {P : T → Type 0} (answer : Result T ProgramFault) (syms : Table) → ((x : T) → P x → Passes tells files syms)
+      → IfOk answer P → AreRefused tells files → IsErr answer
   refuses (Ok x) syms passes ok refused = absurd (none_refused syms (passes x ok) refused)
   refuses (Err fault) syms passes ok refused = refl
 
@@ -254,7 +275,8 @@ pub none_yet : (tells : List ℕ → Told) (syms : Table) → syms ≡ [] → Pa
 none_yet tells syms is = record { modules = []; ts = []; hold = record { held = tt; formed = record { typed = is; limits = tt } } }
 
 -- the cause, where the count of the one that ended it rose since an earlier moment
-earlier_count : (number : ℕ) (old known : Table) (told same : Told) (first before after : ℕ) (fault : FileFault) → told ≡ same → first ≤ before → IsCause number old fault told before after known → IsCause number old fault same first after known
+earlier_count : (number : ℕ) (old known : Table) (told same : Told) (first before after : ℕ) (fault : FileFault) → told ≡ same → first ≤ before
+    → IsCause number old fault told before after known → IsCause number old fault same first after known
 earlier_count number old known told same first before after (NoModule fault) e low cause = subst (λ t. HoldsFault number old t fault known) e cause
 earlier_count number old known told same first before after CannotRead e low cause = omega (arith, low, cause)
 earlier_count number old known told same first before after Memory e low cause = tt
@@ -265,7 +287,9 @@ module _ (tells : List ℕ → Told) (files : List (List ℕ)) (k : ℕ) (name :
   so_many modules held = as_many tells (take k files) modules held ∙ length-take-le k files (omega (arith, less))
 
   -- it is the text of a module that is well formed, and so were those before it
-  pub hold_more : (modules : List Module) (ts : List TypedModule) (syms new : Table) (number : ℕ) (told : Told) (t : TypedModule) → HoldWellFormed tells (take k files) modules ts syms → number ≡ suc k → told ≡ tells name → (held : HoldsTyped number syms told t new) → AllByRecursion KeepsLimits (functions_in t)
+  pub hold_more : (modules : List Module) (ts : List TypedModule) (syms new : Table) (number : ℕ) (told : Told) (t : TypedModule)
+      → HoldWellFormed tells (take k files) modules ts syms → number ≡ suc k → told ≡ tells name → (held : HoldsTyped number syms told t new)
+      → AllByRecursion KeepsLimits (functions_in t)
       → HoldWellFormed tells (take (k + 1) files) (modules ++ held.found ∷ []) (ts ++ t ∷ []) new
   hold_more modules ts syms new number told t hold is_number same held kept =
       let more : take k files ++ name ∷ [] ≡ take (k + 1) files = ap (λ x. take k files ++ x ∷ []) is ∙ sym (take_more files k name less) in
@@ -276,11 +300,13 @@ module _ (tells : List ℕ → Told) (files : List (List ℕ)) (k : ℕ) (name :
             (one_more tells (take k files) modules name held.found hold.held (subst (λ d. HoldsModule d held.found) same held.held));
         formed = record {
           typed = subst (λ s. AreTypedAs 1 [] (modules ++ held.found ∷ []) (ts ++ t ∷ []) s) (sym held.names) typed;
-          limits = subst (AllByRecursion KeepsLimits) (sym (functions_more ts t)) (all_both KeepsLimits (functions_of ts) (functions_in t) hold.formed.limits kept);
+          limits = subst (AllByRecursion KeepsLimits) (sym (functions_more ts t))
+              (all_both KeepsLimits (functions_of ts) (functions_in t) hold.formed.limits kept);
         };
       }
 
-  pub up_to_next : (syms new : Table) (number : ℕ) (told : Told) (t : TypedModule) → Passed tells (take k files) syms → number ≡ suc k → told ≡ tells name → HoldsTyped number syms told t new → AllByRecursion KeepsLimits (functions_in t) → Passed tells (take (k + 1) files) new
+  pub up_to_next : (syms new : Table) (number : ℕ) (told : Told) (t : TypedModule) → Passed tells (take k files) syms → number ≡ suc k
+      → told ≡ tells name → HoldsTyped number syms told t new → AllByRecursion KeepsLimits (functions_in t) → Passed tells (take (k + 1) files) new
   up_to_next syms new number told t passed is_number same held kept = record {
     modules = passed.modules ++ held.found ∷ [];
     ts = passed.ts ++ t ∷ [];
@@ -288,7 +314,9 @@ module _ (tells : List ℕ → Told) (files : List (List ℕ)) (k : ℕ) (name :
   }
 
   -- going over the files ends at it
-  pub ends_here : (first before after : List ℕ → ℕ) (told : Told) (syms known : Table) (number : ℕ) (fault : FileFault) → Passed tells (take k files) syms → number ≡ suc k → told ≡ tells name → first name ≤ before name → IsCause number syms fault told (before name) (after name) known → EndsAt tells first after files name fault known
+  pub ends_here : (first before after : List ℕ → ℕ) (told : Told) (syms known : Table) (number : ℕ) (fault : FileFault)
+      → Passed tells (take k files) syms → number ≡ suc k → told ≡ tells name → first name ≤ before name
+      → IsCause number syms fault told (before name) (after name) known → EndsAt tells first after files name fault known
   ends_here first before after told syms known number fault passed is_number same low cause =
       let next : number ≡ suc (length (take k files)) = is_number ∙ ap suc (sym (length-take-le k files (omega (arith, less)))) in
       record {
@@ -299,9 +327,6 @@ module _ (tells : List ℕ → Told) (files : List (List ℕ)) (k : ℕ) (name :
         syms = syms;
         whole = around files k name less is;
         hold = passed.hold;
-        cause = subst (λ i. IsCause i syms fault (tells name) (first name) (after name) known) next (earlier_count number syms known told (tells name) (first name) (before name) (after name) fault same low cause);
+        cause = subst (λ i. IsCause i syms fault (tells name) (first name) (after name) known) next
+            (earlier_count number syms known told (tells name) (first name) (before name) (after name) fault same low cause);
       }
-
--- all of the files were gone over
-pub all_passed : (tells : List ℕ → Told) (files : List (List ℕ)) (k : ℕ) (syms : Table) → length files ≤ k → Passed tells (take k files) syms → Passed tells files syms
-all_passed tells files k syms end passed = subst (λ l. Passed tells l syms) (take_all k files end) passed

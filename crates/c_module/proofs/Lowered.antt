@@ -1,18 +1,16 @@
 -- The routines of files so far, and the program of the routines of all.
-use Rattle.std.proofs.Common.{◌≡◌, ℕ, suc, ◌+◌, ◌<◌, ◌≤◌, List, [], ◌∷◌, ◌++◌, map, length, take, get_or, None, refl, sym, ◌∙◌, ap, subst, arith}
+use Rattle.std.proofs.Common.{◌≡◌, ℕ, suc, ◌+◌, ◌<◌, List, [], ◌∷◌, ◌++◌, map, length, take, get_or, sym, ◌∙◌, ap, subst}
 use Rattle.std.specs.List.{AllByRecursion}
-use Rattle.std.proofs.lemmas.List.{map-append, take_all}
+use Rattle.std.proofs.lemmas.List.{map-append}
 use Rattle.il_core.specs.declared.program.IlProgram.{IlProgram}
 use Rattle.il_core.specs.declared.shape.ShapeRow.{ShapeRow}
 use Rattle.il_core.specs.Meaning.{il_run}
 use Rattle.il_core.specs.Routine.{RoutineParts}
 use Rattle.il_core.specs.Shapes.{IsRising}
 use Rattle.il_core.specs.Valid.{IsProgram}
-use Rattle.linker.specs.Linking.{refusal}
 use Rattle.outside.specs.Told.{Told}
 use Rattle.profile.specs.Counts.{Counts}
 use Rattle.program_laws.specs.Laws.{AreLinking, LoweredProgramsAreRight, TypedModulesFit, TypedProgramsAreWhole}
-use Rattle.program_laws.specs.Settled.{AreWhole}
 use Rattle.sym_tables.specs.Table.{Table}
 use Rattle.c_tree.specs.declared.declaration.Module.{Module}
 use Rattle.c_typed.specs.declared.function.TypedModule.{TypedModule}
@@ -22,7 +20,6 @@ use Rattle.c_typed.specs.Views.{functions_of}
 use Rattle.c_lower.specs.Lowering.{entry_of, routine_of, sites_of}
 use Rattle.c_module.specs.Appending.{AddsLowered, IsReady}
 use Rattle.c_module.specs.Assembling.{AreRoutinesOf, assembled, rows_of}
-use Rattle.c_module.specs.Files.{AreNames}
 use Rattle.c_module.specs.Limits.{functions_in}
 use Rattle.c_module.specs.Programs.{IsProgramOf}
 use Rattle.c_module.specs.Verdict.{HoldWellFormed}
@@ -38,19 +35,24 @@ pub record Lowered (counts : Counts) (tells : List ℕ → Told) (files : List (
   pub hold : HoldWellFormed tells files modules ts syms
   pub are : rs ≡ map (routine_of syms counts) (functions_of ts)
 
-pub none_lowered : (counts : Counts) (tells : List ℕ → Told) (rs : List RoutineParts) (syms : Table) → syms ≡ [] → rs ≡ [] → Lowered counts tells [] rs syms
-none_lowered counts tells rs syms is none = record { modules = []; ts = []; hold = record { held = tt; formed = record { typed = is; limits = tt } }; are = none }
+pub none_lowered : (counts : Counts) (tells : List ℕ → Told) (rs : List RoutineParts) (syms : Table) → syms ≡ [] → rs ≡ []
+    → Lowered counts tells [] rs syms
+none_lowered counts tells rs syms is none = record {
+  modules = [];
+  ts = [];
+  hold = record { held = tt; formed = record { typed = is; limits = tt } };
+  are = none;
+}
 
-pub names_so_far : TypedProgramsAreWhole → (counts : Counts) (tells : List ℕ → Told) (files : List (List ℕ)) (rs : List RoutineParts) (syms : Table) → Lowered counts tells files rs syms → AreNames syms
-names_so_far law counts tells files rs syms lowered =
-    record { functions = functions_of lowered.ts; whole = law lowered.modules lowered.ts syms lowered.hold.formed.typed }
-
-pub passed_so_far : (counts : Counts) (tells : List ℕ → Told) (files : List (List ℕ)) (rs : List RoutineParts) (syms : Table) → Lowered counts tells files rs syms → Passed tells files syms
+pub passed_so_far : (counts : Counts) (tells : List ℕ → Told) (files : List (List ℕ)) (rs : List RoutineParts) (syms : Table)
+    → Lowered counts tells files rs syms → Passed tells files syms
 passed_so_far counts tells files rs syms lowered = record { modules = lowered.modules; ts = lowered.ts; hold = lowered.hold }
 
 -- the routines of one more file
-pub lowered_more : TypedModulesFit → TypedProgramsAreWhole → (counts : Counts) (tells : List ℕ → Told) (files : List (List ℕ)) (k : ℕ) (name : List ℕ) → k < length files → name ≡ get_or files k name
-    → (syms new : Table) (number : ℕ) (told : Told) (before after : List RoutineParts) → Lowered counts tells (take k files) before syms → number ≡ suc k → told ≡ tells name
+pub lowered_more : TypedModulesFit → TypedProgramsAreWhole → (counts : Counts) (tells : List ℕ → Told) (files : List (List ℕ)) (k : ℕ) (name : List ℕ)
+    → k < length files → name ≡ get_or files k name
+    → (syms new : Table) (number : ℕ) (told : Told) (before after : List RoutineParts) → Lowered counts tells (take k files) before syms
+    → number ≡ suc k → told ≡ tells name
     → AddsLowered number syms counts told before after new → Lowered counts tells (take (k + 1) files) after new
 lowered_more fit law counts tells files k name less is syms new number told before after lowered is_number same adds =
     let held = adds.lowered in
@@ -71,29 +73,27 @@ lowered_more fit law counts tells files k name less is syms new number told befo
           ∙ ap (map (routine_of new counts)) (sym (functions_more lowered.ts t));
     }
 
--- the routines of all files, whose modules link
-pub all_lowered : (counts : Counts) (tells : List ℕ → Told) (files : List (List ℕ)) (k : ℕ) (rs : List RoutineParts) (syms : Table) → length files ≤ k → Lowered counts tells (take k files) rs syms → refusal syms ≡ None → AreRoutinesOf counts tells files rs syms
-all_lowered counts tells files k rs syms end lowered links =
-    let whole = subst (λ l. Lowered counts tells l rs syms) (take_all k files end) lowered in
-    record { modules = whole.modules; ts = whole.ts; accepted = record { hold = whole.hold; links = links }; are = whole.are }
-
 -- ## The program
 
-all_live : (syms : Table) (counts : Counts) (fs : List Function) → AllByRecursion (IsReady syms) fs → AllByRecursion (λ (r : RoutineParts). r.pid < length syms) (map (routine_of syms counts) fs)
+all_live : (syms : Table) (counts : Counts) (fs : List Function) → AllByRecursion (IsReady syms) fs
+    → AllByRecursion (λ (r : RoutineParts). r.pid < length syms) (map (routine_of syms counts) fs)
 all_live syms counts [] ready = tt
 all_live syms counts (f ∷ fs) ready = (subst (λ n. n < length syms) (sym (same_pid syms counts f)) ready.0.live, all_live syms counts fs ready.1)
 
-module _ (counts : Counts) (tells : List ℕ → Told) (files : List (List ℕ)) (rs : List RoutineParts) (syms : Table) (routines : AreRoutinesOf counts tells files rs syms) where
+module _ (counts : Counts) (tells : List ℕ → Told) (files : List (List ℕ)) (rs : List RoutineParts) (syms : Table)
+    (routines : AreRoutinesOf counts tells files rs syms) where
   pub are_live : TypedProgramsAreWhole → AllByRecursion (λ (r : RoutineParts). r.pid < length syms) rs
   are_live law =
       let fs = functions_of routines.ts in
       let whole = law routines.modules routines.ts syms routines.accepted.hold.formed.typed in
-      subst (AllByRecursion (λ (r : RoutineParts). r.pid < length syms)) (sym routines.are) (all_live syms counts fs (all_ready syms fs whole.settled.functions whole.bound))
+      subst (AllByRecursion (λ (r : RoutineParts). r.pid < length syms)) (sym routines.are)
+      (all_live syms counts fs (all_ready syms fs whole.settled.functions whole.bound))
 
   module _ (law : LoweredProgramsAreRight) where
     right : IsProgram (assembled rs syms) × ((input : List ℕ) (turns : ℕ) → il_run (assembled rs syms) input turns ≡ c90_run routines.ts syms input turns)
     right =
-        let linking : AreLinking routines.modules routines.ts syms = record { typed = routines.accepted.hold.formed.typed; links = routines.accepted.links } in
+        let linking : AreLinking routines.modules routines.ts syms = record
+        { typed = routines.accepted.hold.formed.typed; links = routines.accepted.links } in
         subst (λ q. IsProgram q × ((input : List ℕ) (turns : ℕ) → il_run q input turns ≡ c90_run routines.ts syms input turns))
         (sym (ap (λ l. assembled l syms) routines.are ∙ assembled_is syms counts (functions_of routines.ts)))
         (law routines.modules routines.ts syms linking (entry_of syms counts) (sites_of syms counts))

@@ -51,14 +51,18 @@ same_typed : {a b : TypedModule} {h k : Here} → Gives a h ≡ Gives b k → (a
 same_typed e = (cc, cc)
 
 -- no routine of a module whose functions all keep the limits passes one
-none_too_large : (number : ℕ) (old : Table) (bytes : List ℕ) (pid : ℕ) (new : Table) (m : Module) (t : TypedModule) (h : Here) → IsModuleText bytes m → module_rules number m (start old) ≡ Gives t h → AllByRecursion KeepsLimits (functions_in t) → IsTooLarge number old bytes pid new → ⊥
+none_too_large : (number : ℕ) (old : Table) (bytes : List ℕ) (pid : ℕ) (new : Table) (m : Module) (t : TypedModule) (h : Here) → IsModuleText bytes m
+    → module_rules number m (start old) ≡ Gives t h → AllByRecursion KeepsLimits (functions_in t) → IsTooLarge number old bytes pid new → ⊥
 none_too_large number old bytes pid new m t h text typed kept fault =
     let same = same_typed (sym typed ∙ ap (λ x. module_rules number x (start old)) (sym (fault.text.only m text)) ∙ fault.typed) in
     let first = fault.first in
-    first.past (all_middle KeepsLimits first.earlier first.later first.large (subst (AllByRecursion KeepsLimits) (ap functions_in same.0 ∙ first.whole) kept))
+    first.past (all_middle KeepsLimits first.earlier first.later first.large
+    (subst (AllByRecursion KeepsLimits) (ap functions_in same.0 ∙ first.whole) kept))
 
 -- a module that follows the rules and keeps the limits has no fault
-pub sound_has_no_fault : (number : ℕ) (old : Table) (bytes : List ℕ) (fault : ModuleFault) (new : Table) (m : Module) (t : TypedModule) (h : Here) → IsModuleText bytes m → module_rules number m (start old) ≡ Gives t h → AllByRecursion KeepsLimits (functions_in t) → IsModuleFault number old bytes fault new → ⊥
+pub sound_has_no_fault : (number : ℕ) (old : Table) (bytes : List ℕ) (fault : ModuleFault) (new : Table) (m : Module) (t : TypedModule) (h : Here)
+    → IsModuleText bytes m → module_rules number m (start old) ≡ Gives t h → AllByRecursion KeepsLimits (functions_in t)
+    → IsModuleFault number old bytes fault new → ⊥
 sound_has_no_fault number old bytes TooLong new m t h text typed kept fault = let short = text.scanned.short in omega (arith, fault, short)
 sound_has_no_fault number old bytes (Lexical line kind) new m t h text typed kept fault = fault.1.refused text.tokens text.scanned.text
 sound_has_no_fault number old bytes (Syntax line kind) new m t h text typed kept (ts, scanned, fault) =
@@ -75,7 +79,9 @@ holds_module Untold ts slice m scanned is answer = tt
 holds_module Absent ts slice m scanned is answer = scanned
 holds_module (Holds bytes) ts slice m scanned is answer = only_module bytes ts m scanned (subst (λ l. Answers l (Ok m)) is answer)
 
-pub file_has_no_fault : (number : ℕ) (old : Table) (told : Told) (fault : ModuleFault) (new : Table) (m : Module) (t : TypedModule) (h : Here) → IsTextOf told m → module_rules number m (start old) ≡ Gives t h → AllByRecursion KeepsLimits (functions_in t) → HoldsFault number old told fault new → ⊥
+pub file_has_no_fault : (number : ℕ) (old : Table) (told : Told) (fault : ModuleFault) (new : Table) (m : Module) (t : TypedModule) (h : Here)
+    → IsTextOf told m → module_rules number m (start old) ≡ Gives t h → AllByRecursion KeepsLimits (functions_in t)
+    → HoldsFault number old told fault new → ⊥
 file_has_no_fault number old told fault new m t h file typed kept held =
     sound_has_no_fault number old file.bytes fault new m t h file.text typed kept (subst (λ x. HoldsFault number old x fault new) file.holds held)
 

@@ -1,8 +1,8 @@
 -- A name keeps its PID while the table grows, so a routine keeps its counts.
-use Rattle.std.proofs.Common.{◌≡◌, ◌≢◌, ℕ, zero, suc, ◌<◌, Bool, true, false, List, [], ◌∷◌, ◌++◌, map, length, take, get_or, Option, Some, None, refl, sym, ◌∙◌, ap, subst, arith, slice_get}
+use Rattle.std.proofs.Common.{◌≡◌, ◌≢◌, ℕ, zero, suc, Bool, true, false, List, [], ◌∷◌, map, take, get_or, Option, Some, None, refl, sym, ◌∙◌, ap, subst, slice_get}
 use Rattle.std.specs.Prelude.{nat_eq, ◌&&◌}
 use Rattle.std.specs.List.{AllByRecursion}
-use Rattle.std.specs.Map.{keys_of, values_of}
+use Rattle.std.specs.Map.{keys_of}
 use Rattle.std.proofs.lemmas.Bool.{false≢true}
 use Rattle.std.proofs.lemmas.List.Quantifiers.{position-Some}
 use Rattle.profile.specs.Counts.{Counts}
@@ -24,7 +24,8 @@ same_is [] [] e = refl
 same_is [] (y ∷ ys) e = absurd (false≢true e)
 same_is (x ∷ xs) [] e = absurd (false≢true e)
 same_is (x ∷ xs) (y ∷ ys) e =
-    ap (λ z. z ∷ xs) (same_number x y (and_first (nat_eq x y) (same_name xs ys) e)) ∙ ap (λ l. y ∷ l) (same_is xs ys (and_second (nat_eq x y) (same_name xs ys) e))
+    ap (λ z. z ∷ xs) (same_number x y (and_first (nat_eq x y) (same_name xs ys) e))
+    ∙ ap (λ l. y ∷ l) (same_is xs ys (and_second (nat_eq x y) (same_name xs ys) e))
 
 itself : (name : List ℕ) → same_name name name ≡ true
 itself [] = refl
@@ -44,7 +45,8 @@ at_key P [] k e at all = absurd (let c : None ≡ Some e = at in cc)
 at_key P (f ∷ es) zero e at all = let same : f ≡ e = cc in subst (λ (x : List ℕ × Symbol). P x.0) same all.0
 at_key P (f ∷ es) (suc k) e at all = at_key P es k e at all.1
 
-others_before : (es : Table) → AreOnce (keys_of es) → (k : ℕ) (e : List ℕ × Symbol) → slice_get es k ≡ Some e → AllByRecursion (λ key. same_name e.0 key ≡ false) (take k (keys_of es))
+others_before : (es : Table) → AreOnce (keys_of es) → (k : ℕ) (e : List ℕ × Symbol) → slice_get es k ≡ Some e
+    → AllByRecursion (λ key. same_name e.0 key ≡ false) (take k (keys_of es))
 others_before [] once k e at = absurd (let c : None ≡ Some e = at in cc)
 others_before (f ∷ es) once zero e at = tt
 others_before (f ∷ es) once (suc k) e at = (other_is e.0 f.0 (at_key (λ other. other ≢ f.0) es k e at once.0), others_before es once.1 k e at)
@@ -55,7 +57,8 @@ key_is (e ∷ es) zero = refl
 key_is (e ∷ es) (suc k) = key_is es k
 
 -- a name that is there stays
-name_stays : (old new : Table) → AreOnce (keys_of old) → Grows old new → (pid : ℕ) (e : List ℕ × Symbol) → slice_get old pid ≡ Some e → name_at old pid ≡ name_at new pid
+name_stays : (old new : Table) → AreOnce (keys_of old) → Grows old new → (pid : ℕ) (e : List ℕ × Symbol) → slice_get old pid ≡ Some e
+    → name_at old pid ≡ name_at new pid
 name_stays old new once grows pid e at =
     let named : pid_of old e.0 ≡ Some pid = found_pid old e.0 pid e.0 e.1 (others_before old once pid e at) at (itself e.0) in
     let found = position-Some (same_name e.0) (keys_of new) pid [] (grows.names e.0 pid named) in
@@ -63,7 +66,8 @@ name_stays old new once grows pid e at =
 
 -- ## Routines
 
-routine_stays : (old new : Table) (counts : Counts) (f : Function) → name_at old f.pid ≡ name_at new f.pid → routine_of old counts f ≡ routine_of new counts f
+routine_stays : (old new : Table) (counts : Counts) (f : Function) → name_at old f.pid ≡ name_at new f.pid
+    → routine_of old counts f ≡ routine_of new counts f
 unfolding routine_of
 routine_stays old new counts f same = ap (λ name. lowered (counts.entry name) (counts.site name) f) same
 
@@ -80,7 +84,8 @@ stands_there syms f stands = by_symbol (symbol_at syms f.pid) refl stands.is
     by_symbol None there is = absurd (let c : None ≡ Some stands.entity = is in cc)
     by_symbol (Some s) there is = entry_of_pid syms f.pid (Some s) s there
 
-routines_from_stay : (old new : Table) (counts : Counts) (fs : List Function) → AreOnce (keys_of old) → Grows old new → AllByRecursion (Stands old) fs → map (routine_of old counts) fs ≡ map (routine_of new counts) fs
+routines_from_stay : (old new : Table) (counts : Counts) (fs : List Function) → AreOnce (keys_of old) → Grows old new → AllByRecursion (Stands old) fs
+    → map (routine_of old counts) fs ≡ map (routine_of new counts) fs
 routines_from_stay old new counts [] once grows stands = refl
 routines_from_stay old new counts (f ∷ fs) once grows stands =
     let there = stands_there old f stands.0 in
@@ -88,5 +93,6 @@ routines_from_stay old new counts (f ∷ fs) once grows stands =
     ∙ ap (λ l. routine_of new counts f ∷ l) (routines_from_stay old new counts fs once grows stands.1)
 
 -- the routines of functions stay while the table grows
-pub routines_stay : (old new : Table) (counts : Counts) (fs : List Function) → AreWhole fs old → Grows old new → map (routine_of old counts) fs ≡ map (routine_of new counts) fs
+pub routines_stay : (old new : Table) (counts : Counts) (fs : List Function) → AreWhole fs old → Grows old new
+    → map (routine_of old counts) fs ≡ map (routine_of new counts) fs
 routines_stay old new counts fs whole grows = routines_from_stay old new counts fs whole.settled.names grows whole.settled.functions

@@ -6,23 +6,19 @@ use Rattle.std.proofs.lemmas.List.{append-nil}
 use Rattle.std.specs.Map.{values_of}
 use Rattle.std.proofs.lemmas.Map.Entries.{length-values_of}
 use Rattle.std.proofs.lemmas.Option.{slice_get_within}
-use Rattle.outside.specs.Told.{Told, Untold, Absent, Holds}
+use Rattle.outside.specs.Told.{Told}
 use Rattle.sym_tables.specs.declared.entity.Entity.{Entity}
 use Rattle.sym_tables.specs.declared.symbol.Symbol.{Symbol}
 use Rattle.sym_tables.specs.Table.{Table, symbol_at}
 use Rattle.c_typed.specs.declared.function.TypedModule.{TypedModule}
 use Rattle.c_typed.specs.Trees.{Function}
-use Rattle.c_typed.specs.Views.{functions_of}
 use Rattle.lower_laws.specs.Bound.{IsBound}
 use Rattle.program_laws.specs.Growing.{entity_in}
 use Rattle.program_laws.specs.Laws.{TypedModulesFit}
 use Rattle.program_laws.specs.Settled.{AreWhole, Stands}
-use Rattle.c_module.specs.Appending.{EndsLowering, IsReady}
-use Rattle.c_module.specs.Files.{AreNames, HoldsTyped, IsCause}
+use Rattle.c_module.specs.Appending.{IsReady}
+use Rattle.c_module.specs.Files.{AreNames, HoldsTyped}
 use Rattle.c_module.specs.Limits.{functions_in}
-use Rattle.c_module.specs.declared.fault.FileFault.{FileFault}
-use Rattle.c_module.specs.declared.fault.FileFault.TheVariants.{NoModule, CannotRead, Memory}
-use Rattle.c_module.specs.declared.fault.ModuleFault.TheVariants.{TooLong, Lexical, Syntax, Typing, TooLarge}
 use Rattle.c_module.proofs.Elements.{all_behind}
 
 -- a PID that stands for something is in the table
@@ -42,7 +38,8 @@ module _ (fit : TypedModulesFit) (number : ℕ) (old : Table) (told : Told) (t :
   pub whole_behind : (fs : List Function) → AreWhole fs old → AreWhole (fs ++ functions_in t) new
   whole_behind fs whole =
       let behind = (fit number held.found fs old t held.here whole held.typed).0 in
-      subst (λ s. AreWhole (fs ++ functions_in t) s) (sym held.names) (subst (λ gs. AreWhole (fs ++ gs) held.here.syms) (append-nil (functions_in t)) behind)
+      subst (λ s. AreWhole (fs ++ functions_in t) s) (sym held.names)
+      (subst (λ gs. AreWhole (fs ++ gs) held.here.syms) (append-nil (functions_in t)) behind)
 
   pub are_ready : AreNames old → AllByRecursion (IsReady new) (functions_in t)
   are_ready names =
@@ -52,19 +49,6 @@ module _ (fit : TypedModulesFit) (number : ℕ) (old : Table) (told : Told) (t :
 
   pub are_names : AreNames old → AreNames new
   are_names names = record { functions = names.functions ++ functions_in t; whole = whole_behind names.functions names.whole }
-
--- lowering the functions of a module ended for what is wrong with its file
-pub ends_for : (number : ℕ) (old : Table) (told : Told) (t : TypedModule) (new : Table) (fault : FileFault) (before after : ℕ) → HoldsTyped number old told t new → EndsLowering (functions_in t) fault → IsCause number old fault told before after new
-ends_for number old told t new (NoModule TooLong) before after held ends = absurd ends
-ends_for number old told t new (NoModule (Lexical line kind)) before after held ends = absurd ends
-ends_for number old told t new (NoModule (Syntax line kind)) before after held ends = absurd ends
-ends_for number old told t new (NoModule (Typing line kind)) before after held ends = absurd ends
-ends_for number old Untold t new (NoModule (TooLarge pid)) before after held ends = tt
-ends_for number old Absent t new (NoModule (TooLarge pid)) before after held ends = held.held
-ends_for number old (Holds bytes) t new (NoModule (TooLarge pid)) before after held ends =
-    record { found = held.found; text = held.held; typed_as = t; here = held.here; typed = held.typed; names = held.names; first = ends }
-ends_for number old told t new CannotRead before after held ends = absurd ends
-ends_for number old told t new Memory before after held ends = tt
 
 -- what holds anyway holds where a call succeeded
 pub where_ok : {T E : Type 0} {P : Type 0} (r : Result T E) → P → OnOk r P

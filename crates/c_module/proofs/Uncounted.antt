@@ -1,6 +1,6 @@
 -- Counts are no matter of limits: the code of a function keeps the limits with the counts of one profile where it does with
 -- those of another.
-use Rattle.std.proofs.Common.{◌≡◌, ℕ, ◌≤◌, List, [], ◌∷◌, Bool, true, false, Option, Some, None, sym, ◌∙◌, subst}
+use Rattle.std.proofs.Common.{ℕ, ◌≤◌, List, [], ◌∷◌, Bool, true, false, Option, Some, None, sym, ◌∙◌, subst}
 use Rattle.std.specs.List.{AllByRecursion}
 use Rattle.std.specs.Prelude.{if◌then◌else◌}
 use Rattle.hlo_num.specs.declared.word.Ty.{Ty}
@@ -19,8 +19,6 @@ use Rattle.c_typed.specs.Expressions.{Spot, Whole, Part}
 use Rattle.c_typed.specs.Trees as tree
 use Rattle.c_typed.specs.Trees.{Place, Expr, Arguments, Stmt, Sections, Function}
 use Rattle.c_lower.specs.Lowering.{routine_of, entry_of, sites_of}
-use Rattle.profile.specs.Counts.{Counts}
-use Rattle.sym_tables.specs.Table.{Table}
 use Rattle.lower_laws.specs.Code.{Code, blocks_of, put, close, Numbers, past_new, label}
 use Rattle.lower_laws.specs.Expressions.{arm_code, arm_open, past, place_past, result, code, place_code, arguments_code}
 use Rattle.lower_laws.specs.Functions.{layout_of, first_numbers, body_past, last_code, nowhere, lowered}
@@ -70,7 +68,8 @@ labels_carry : {k l : Code} (ls : List Label) (opened : Bool) (n : Numbers) → 
 labels_carry [] opened n g = g
 labels_carry (x ∷ ls) opened n g = label_carries opened n (labels_carry ls true _ g)
 
-label_tests_carry : {k l : Code} (z : ℕ) (ls : List Label) (opened : Bool) (there n : Numbers) → Carries k l → Carries (label_tests z ls opened there n k) (label_tests z ls opened there n l)
+label_tests_carry : {k l : Code} (z : ℕ) (ls : List Label) (opened : Bool) (there n : Numbers) → Carries k l
+    → Carries (label_tests z ls opened there n k) (label_tests z ls opened there n l)
 label_tests_carry z [] opened there n g = g
 label_tests_carry z (labels.Case v ∷ ls) opened there n g = put_carries _ (put_carries _ (end_carries _ (label_tests_carry z ls true _ _ g)))
 label_tests_carry z (labels.Default ∷ ls) opened there n g = label_tests_carry z ls true _ n g
@@ -104,7 +103,8 @@ module _ (y : Layout) (count : ℕ → ℕ) where
   store_carries : {k l : Code} (s : Spot) (r : ℕ) → Carries k l → Carries (put (store y s r) k) (put (store other s r) l)
   store_carries s r g = instr_carries _ _ (store_same s r) g
 
-  update_carries : {k l : Code} (t : Ty) (o : BinaryOp) (u : Ty) (s : Spot) (old v : ℕ) (n : Numbers) → Carries k l → Carries (update_code y t o u s old v n k) (update_code other t o u s old v n l)
+  update_carries : {k l : Code} (t : Ty) (o : BinaryOp) (u : Ty) (s : Spot) (old v : ℕ) (n : Numbers) → Carries k l
+      → Carries (update_code y t o u s old v n k) (update_code other t o u s old v n l)
   update_carries t o u s old v n g = put_carries _ (if_carries (is_narrow t) _ (store_carries s _ g))
 
   mutual
@@ -118,15 +118,19 @@ module _ (y : Layout) (count : ℕ → ℕ) where
     expr_carries (tree.Logical o a b) n g =
         expr_carries a n (end_carries _ (expr_carries b _ (put_carries _ (put_carries _ (end_carries _ (put_carries _ (end_carries _ g)))))))
     expr_carries (tree.Conditional t c a b) n g =
-        expr_carries c n (end_carries _ (expr_carries a _ (arm_carries t _ _ (end_carries _ (expr_carries b _ (arm_carries t _ _ (label_carries (arm_open t b) _ g)))))))
+        expr_carries c n (end_carries _ (expr_carries a _
+        (arm_carries t _ _ (end_carries _ (expr_carries b _ (arm_carries t _ _ (label_carries (arm_open t b) _ g)))))))
     expr_carries (tree.Comma t a b) n g = expr_carries a n (expr_carries b _ g)
     expr_carries (tree.Assign t p e) n g = place_carries p n (expr_carries e _ (store_carries _ _ g))
     expr_carries (tree.Compound t o u p e) n g =
-        place_carries p n (load_carries _ _ (if_carries (is_narrow u) _ (expr_carries e _ (update_carries t o u _ _ _ (past e (conv_past u (past_new (place_past p n)))) g))))
+        place_carries p n (load_carries _ _ (if_carries (is_narrow u) _
+        (expr_carries e _ (update_carries t o u _ _ _ (past e (conv_past u (past_new (place_past p n)))) g))))
     expr_carries (tree.Prefix t d p) n g =
-        place_carries p n (load_carries _ _ (if_carries (is_narrow (promote t)) _ (put_carries _ (update_carries t _ (promote t) _ _ _ (past_new (conv_past (promote t) (past_new (place_past p n)))) g))))
+        place_carries p n (load_carries _ _ (if_carries (is_narrow (promote t)) _
+        (put_carries _ (update_carries t _ (promote t) _ _ _ (past_new (conv_past (promote t) (past_new (place_past p n)))) g))))
     expr_carries (tree.Postfix t d p) n g =
-        place_carries p n (load_carries _ _ (if_carries (is_narrow (promote t)) _ (put_carries _ (update_carries t _ (promote t) _ _ _ (past_new (conv_past (promote t) (past_new (place_past p n)))) g))))
+        place_carries p n (load_carries _ _ (if_carries (is_narrow (promote t)) _
+        (put_carries _ (update_carries t _ (promote t) _ _ _ (past_new (conv_past (promote t) (past_new (place_past p n)))) g))))
     expr_carries (tree.Call t f es) n g = arguments_carry es n (instr_carries _ _ (λ x. x) g)
     expr_carries tree.GetChar n g = put_carries _ g
     expr_carries (tree.PutChar e) n g = expr_carries e n (put_carries _ g)
@@ -144,16 +148,19 @@ module _ (y : Layout) (count : ℕ → ℕ) where
   optional_carries None n g = g
   optional_carries (Some e) n g = expr_carries e n g
 
-  condition_carries : {k l : Code} (e : Option Expr) (n : Numbers) (a b : ℕ) → Carries k l → Carries (condition_code y e n a b k) (condition_code other e n a b l)
+  condition_carries : {k l : Code} (e : Option Expr) (n : Numbers) (a b : ℕ) → Carries k l
+      → Carries (condition_code y e n a b k) (condition_code other e n a b l)
   condition_carries None n a b g = end_carries _ g
   condition_carries (Some e) n a b g = expr_carries e n (end_carries _ g)
 
-  tests_carry : {k l : Code} (x : ℕ) (ss : Sections) (opened : Bool) (there n : Numbers) → Carries k l → Carries (tests_code y x ss opened there n k) (tests_code other x ss opened there n l)
+  tests_carry : {k l : Code} (x : ℕ) (ss : Sections) (opened : Bool) (there n : Numbers) → Carries k l
+      → Carries (tests_code y x ss opened there n k) (tests_code other x ss opened there n l)
   tests_carry x tree.End opened there n g = g
   tests_carry x (tree.Section ls s rest) opened there n g = label_tests_carry x ls opened there n (tests_carry x rest _ _ _ g)
 
   mutual
-    stmt_carries : {k l : Code} (p q : End) (s : Stmt) (opened : Bool) (n : Numbers) → Carries k l → Carries (stmt_code y p q s opened n k) (stmt_code other p q s opened n l)
+    stmt_carries : {k l : Code} (p q : End) (s : Stmt) (opened : Bool) (n : Numbers) → Carries k l
+        → Carries (stmt_code y p q s opened n k) (stmt_code other p q s opened n l)
     stmt_carries p q tree.Empty opened n g = g
     stmt_carries p q (tree.Sequence s t) opened n g = stmt_carries p q s opened n (stmt_carries p q t _ _ g)
     stmt_carries p q (tree.Declaration x None) opened n g = g
@@ -178,7 +185,8 @@ module _ (y : Layout) (count : ℕ → ℕ) where
     stmt_carries p q (tree.Return None) opened n g = no_value_carries y.outline.value n g
     stmt_carries p q (tree.Return (Some e)) opened n g = expr_carries e n (end_carries _ g)
 
-    sections_carry : {k l : Code} (p q : End) (ss : Sections) (opened : Bool) (n : Numbers) → Carries k l → Carries (sections_code y p q ss opened n k) (sections_code other p q ss opened n l)
+    sections_carry : {k l : Code} (p q : End) (ss : Sections) (opened : Bool) (n : Numbers) → Carries k l
+        → Carries (sections_code y p q ss opened n k) (sections_code other p q ss opened n l)
     sections_carry p q tree.End opened n g = g
     sections_carry p q (tree.Section ls s rest) opened n g = labels_carry ls opened n (stmt_carries p q s _ _ (sections_carry p q rest _ _ g))
 

@@ -23,7 +23,8 @@ pub record IsReady (syms : Table) (f : Function) : Type 0 where
 -- those of another
 abbrev pub CountsAreNoLimits : Type 0
 CountsAreNoLimits =
-    (syms : Table) (counts : Counts) (f : Function) → (KeepsLimits f → IsWithinLimits (routine_of syms counts f)) × (IsWithinLimits (routine_of syms counts f) → KeepsLimits f)
+    (syms : Table) (counts : Counts) (f : Function)
+    → (KeepsLimits f → IsWithinLimits (routine_of syms counts f)) × (IsWithinLimits (routine_of syms counts f) → KeepsLimits f)
 
 -- why lowering functions in order ended early: the first whose routine passes a limit, or memory ran out
 abbrev pub EndsLowering : List Function → FileFault → Type 0

@@ -41,7 +41,8 @@ pub record Passes (tells : List ℕ → Told) (files : List (List ℕ)) (syms : 
 -- Going over the files in order ends at this one for this fault: those before it are the texts of well formed modules, and
 -- the fault is that of the next number behind the names of those modules. What is told of names is told by the last
 -- table.
-pub record EndsAt (tells : List ℕ → Told) (before after : List ℕ → ℕ) (files : List (List ℕ)) (file : List ℕ) (fault : FileFault) (names : Table) : Type 0 where
+pub record EndsAt (tells : List ℕ → Told) (before after : List ℕ → ℕ) (files : List (List ℕ)) (file : List ℕ) (fault : FileFault)
+    (names : Table) : Type 0 where
   pub earlier : List (List ℕ)
   pub later : List (List ℕ)
   pub modules : List Module

@@ -1,9 +1,8 @@
 //! The typed module of a file.
-ghost use Rattle.std.specs.Prelude.{IfOk, IfErr};
+ghost use Rattle.std.specs.Prelude.{ℕ, IfOk, IfErr};
 ghost use Rattle.outside.specs.Faults.{NoneFalls};
 ghost use Rattle.outside.specs.Told.{SameFiles};
 ghost use Rattle.sym_tables.specs.Table.{Table};
-ghost use Rattle.std.specs.Prelude.{ℕ};
 ghost use Rattle.c_module.specs.Files.{HoldsModule, HoldsTokens, HoldsTyped, IsCause};
 
 use crate::fault::{FileFault, ModuleFault};

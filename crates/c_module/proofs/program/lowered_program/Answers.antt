@@ -9,7 +9,8 @@ returns-clause-complete g c = λ names told links quiet.
 pub returns-clause-refuses : goal.returns-clause-refuses
 returns-clause-refuses g c = λ refused.
     refuses (g.S.Shelf.tells c.args.shelf.now) (g.S.Shelf.faults c.args.shelf.now) (g.S.Shelf.faults c.program_in_order.new.shelf) c.args.files.now
-    c.program_in_order.result c.program_in_order.new.syms (λ x is. record { modules = is.modules; ts = is.ts; accepted = is.accepted }) c.program_in_order.ensures.ok refused
+    c.program_in_order.result c.program_in_order.new.syms
+    (λ x is. record { modules = is.modules; ts = is.ts; accepted = is.accepted }) c.program_in_order.ensures.ok refused
 
 pub returns-clause-reads : goal.returns-clause-reads
 returns-clause-reads g c = λ quiet.

@@ -22,7 +22,8 @@ loop-file-preserved g c =
     let known = c.loop-file.invariant in
     let name = c.as_str-name.result.now in
     let is = subst (λ n. n ≡ get_or c.args.files.now c.loop-file.file-index n) (sym c.as_str-name.ensures) c.file-item.is in (
-      lowered_more c.typed_modules_fit.ensures c.typed_programs_are_whole.ensures (counts_of c.args.p.now) (g.S.Shelf.tells c.args.shelf.now) c.args.files.now
+      lowered_more c.typed_modules_fit.ensures c.typed_programs_are_whole.ensures (counts_of c.args.p.now)
+          (g.S.Shelf.tells c.args.shelf.now) c.args.files.now
           c.loop-file.file-index name c.loop-file-test.true is c.loop-file.syms c.append_module.new.syms (c.loop-file.number + 1)
           (g.S.Shelf.tells c.loop-file.shelf name) c.loop-file.routines.items c.append_module.new.routines.items
           known.0 (omega (arith, known.3)) (known.1 name) c.in_default.ensures.ok,
