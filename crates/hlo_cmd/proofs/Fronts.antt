@@ -5,9 +5,7 @@ use Rattle.std.proofs.KnownBytes.{Appends-trans}
 use Rattle.std.proofs.Math.Seq.{take-append-add}
 use Rattle.outside.specs.Faults.{HasCause}
 use Rattle.outside.specs.Taken.{TakesAll}
-use Rattle.hlo_cmd.specs.Messages.{Says, status_line}
-use Rattle.hlo_cmd.specs.declared.refusal.Refusal.{Refusal}
-use Rattle.hlo_cmd.specs.Refusal.{status_of}
+use Rattle.hlo_cmd.specs.Messages.{Says}
 
 -- a front of a list is a front of it with more behind
 pub front_of_more : (k : ℕ) (xs ys : List ℕ) → (n : ℕ) × (take k xs ≡ take n (xs ++ ys))
@@ -31,10 +29,6 @@ then_failed a b c k xs ys h g = (length xs + k, subst (Appends a c) (front_behin
 pub says : {T E : Type 0} (before after : Option (List ℕ)) (old new : ℕ) (r : Result T E) (bytes line : List ℕ) → bytes ≡ line → TakesAll before after r bytes → HasCause old new r → Says before after old new line
 says before after old new (Ok x) bytes line e h cause = inl (subst (Appends before after) e h)
 says before after old new (Err f) bytes line e h cause = inr (record { rose = cause.failed; front = h.0; said = subst (λ l. Appends before after (take h.0 l)) e h.1 })
-
--- the line of a refusal
-pub line_of : (refusal known : Refusal) (file name : List ℕ) → refusal ≡ known → name ≡ file → status_line (status_of known) name ≡ status_line (status_of refusal) file
-line_of refusal known file name e f = ap (λ r. status_line (status_of r) name) (sym e) ∙ ap (status_line (status_of refusal)) f
 
 -- a whole piece, and then another one
 pub then_takes : {T E : Type 0} (a b c : Option (List ℕ)) (r : Result T E) (xs ys : List ℕ) → Appends a b xs → TakesAll b c r ys → TakesAll a c r (xs ++ ys)
