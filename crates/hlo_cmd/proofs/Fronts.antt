@@ -1,6 +1,6 @@
 -- Fronts of what is put out in pieces.
-use Rattle.std.proofs.Common.{◌≡◌, ℕ, zero, suc, ◌+◌, List, [], ◌∷◌, ◌++◌, length, take, Option, Result, Ok, Err, refl, sym, ◌∙◌, ap, subst, inl, inr}
-use Rattle.std.specs.Io.KnownBytes.{Appends}
+use Rattle.std.proofs.Common.{◌≡◌, ℕ, zero, suc, ◌+◌, List, [], ◌∷◌, ◌++◌, length, take, Option, Some, None, Result, Ok, Err, refl, sym, ◌∙◌, ap, subst, inl, inr, append-nil}
+use Rattle.std.specs.Io.KnownBytes.{Appends, Keeps}
 use Rattle.std.proofs.KnownBytes.{Appends-trans}
 use Rattle.std.proofs.Math.Seq.{take-append-add}
 use Rattle.outside.specs.Faults.{HasCause}
@@ -39,3 +39,12 @@ then_takes a b c (Err e) xs ys h g = then_failed a b c g.0 xs ys h g.1
 pub takes_line : {T E : Type 0} (a b : Option (List ℕ)) (r : Result T E) (bytes line : List ℕ) → bytes ≡ line → TakesAll a b r bytes → TakesAll a b r line
 takes_line a b (Ok x) bytes line e h = subst (Appends a b) e h
 takes_line a b (Err f) bytes line e h = (h.0, subst (λ l. Appends a b (take h.0 l)) e h.1)
+
+-- nothing was put out, and nothing was said
+pub keeps_itself : (taken : Option (List ℕ)) → Keeps taken taken
+keeps_itself None = tt
+keeps_itself (Some bytes) = refl
+
+pub says_nothing : (taken : Option (List ℕ)) (count : ℕ) → Says taken taken count count []
+says_nothing None count = inl tt
+says_nothing (Some bytes) count = inl (sym (append-nil bytes))

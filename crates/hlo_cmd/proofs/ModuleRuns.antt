@@ -1,5 +1,5 @@
 -- What `run` came to, and what it promises.
-use Rattle.std.proofs.Common.{◌≡◌, ℕ, ◌⊎◌, false, List, [], Option, Some, None, nat_eq, refl, sym, ◌∙◌, ap, subst, inl, inr, ⊤}
+use Rattle.std.proofs.Common.{◌≡◌, ℕ, ◌⊎◌, false, List, [], Option, Some, None, nat_eq, refl, sym, ◌∙◌, ap, subst, inl, inr}
 use Rattle.std.specs.Io.KnownBytes.{Appends, Keeps}
 use Rattle.c_module.specs.Programs.{IsProgramOf}
 use Rattle.c_module.specs.Told.{AreQuiet, AreRefused, AreWellFormedTexts}
@@ -18,7 +18,7 @@ use Rattle.il_core.specs.Meaning.{Run}
 use Rattle.il_run.specs.declared.ending.Ending.{Ending}
 use Rattle.il_run.specs.declared.ending.Ending.TheVariants.{Exit, Trapped, OutOfTurns}
 use Rattle.il_run.specs.declared.ending.RunFault.{RunFault}
-use Rattle.il_run.specs.declared.ending.RunFault.TheVariants as run_fault
+use Rattle.il_run.specs.declared.ending.RunFault.TheVariants as il_fault
 use Rattle.il_run.specs.Machine.{ending_of}
 use Rattle.il_run.specs.Run.{AsksFor, EndsAs, HasReason, IfTold, StopsWithin}
 use Rattle.linker.specs.Linking.{refusal}
@@ -135,9 +135,9 @@ module _ (words : List (List ℕ)) (tells : List ℕ → Told) (shelf shelf_now 
 
       pub run_stopped : (fault : RunFault) → status ≡ refusal_status (run_refusal fault) → Said (refusal_line syms (run_refusal fault))
           → IfTold left (StopsWithin program turns before after) → HasReason fault input input_now out out_now
-          → (fault ≡ run_fault.Input → IfTold left (AsksFor program turns left_now))
+          → (fault ≡ il_fault.Input → IfTold left (AsksFor program turns left_now))
           → RunPromise words tells shelf shelf_now left left_now input input_now before after out out_now Said status
-      run_stopped run_fault.Input e said stops rose wanted = record {
+      run_stopped il_fault.Input e said stops rose wanted = record {
         known = inr (inr (inr (inr (inr (inr e)))));
         ended = λ h. not_ended status 11 e refl refl refl h;
         unwritten = λ six. not_both status 11 6 e six refl;
@@ -147,7 +147,7 @@ module _ (words : List (List ℕ)) (tells : List ℕ → Told) (shelf shelf_now 
         modules = by_acceptance (AsksRunOf words) tells shelf shelf_now Said status (same_files words) files (turns, asked) (inr (inr (inl e))) never;
         complete = λ m fs names given output ending also formed links told run quiet calm calm_out. absurd (calm rose);
       }
-      run_stopped run_fault.Output e said stops rose wanted = record {
+      run_stopped il_fault.Output e said stops rose wanted = record {
         known = inr (inr (inr (inr (inl e))));
         ended = λ h. not_ended status 6 e refl refl refl h;
         unwritten = λ six. (rose, record { turns = turns; files = files; asked = asked; holds = within stops }, said);
@@ -157,7 +157,7 @@ module _ (words : List (List ℕ)) (tells : List ℕ → Told) (shelf shelf_now 
         modules = by_acceptance (AsksRunOf words) tells shelf shelf_now Said status (same_files words) files (turns, asked) (inr (inl e)) never;
         complete = λ m fs names given output ending also formed links told run quiet calm calm_out. absurd (calm_out rose);
       }
-      run_stopped run_fault.Memory e said stops rose wanted = record {
+      run_stopped il_fault.Memory e said stops rose wanted = record {
         known = inr (inr (inr (inr (inr (inl e)))));
         ended = λ h. not_ended status 10 e refl refl refl h;
         unwritten = λ six. not_both status 10 6 e six refl;

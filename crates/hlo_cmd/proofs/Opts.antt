@@ -13,6 +13,8 @@ use Rattle.hlo_words.specs.declared.settings.WordsFault.{WordsFault}
 use Rattle.hlo_words.specs.declared.settings.WordsFault.TheVariants as words_fault
 use Rattle.hlo_words.proofs.Same.{same_opt}
 use Rattle.il_core.specs.declared.program.IlProgram.{IlProgram}
+use Rattle.il_core.specs.Routine.{RoutineParts}
+use Rattle.il_core.specs.Size.{cost}
 use Rattle.il_core.specs.Text.{text}
 use Rattle.linker.specs.Linking.{refusal}
 use Rattle.outside.specs.Told.{Told}
@@ -29,7 +31,7 @@ use Rattle.hlo_cmd.proofs.Verdicts.{by_acceptance, by_fault, by_memory, by_words
 same_files : (words f g : List (List ℕ)) → AsksOpt words f → AsksOpt words g → f ≡ g
 same_files words f g a b = ap (λ (s : OptSettings). s.files) (same_opt words _ _ a.settings b.settings)
 
-not_quiet : {A : Type 0} (status n : ℕ) → status ≡ n → nat_eq n 2 ≡ false → nat_eq n 3 ≡ false → nat_eq n 5 ≡ false → IsQuiet status → A
+pub not_quiet : {A : Type 0} (status n : ℕ) → status ≡ n → nat_eq n 2 ≡ false → nat_eq n 3 ≡ false → nat_eq n 5 ≡ false → IsQuiet status → A
 not_quiet status n e two three five (inl h) = not_both status n 2 e h two
 not_quiet status n e two three five (inr (inl h)) = not_both status n 3 e h three
 not_quiet status n e two three five (inr (inr h)) = not_both status n 5 e h five
@@ -128,3 +130,8 @@ module _ (words : List (List ℕ)) (tells : List ℕ → Told) (shelf shelf_now 
         modules = by_acceptance (AsksOpt words) tells shelf shelf_now Said status (same_files words) files asked (inl e) never;
         complete = λ others names also formed links quiet calm. inl e;
       }
+
+-- a report with the cost of a program's routines
+pub report_by : (report : Report) (n : ℕ) (rs : List RoutineParts) (p : IlProgram) → report ≡ record { charged_peak = 0; under_peak = 0; compactions = 0; offloads = 0; reloads = 0; cost_before = n; cost_after = n }
+    → n ≡ cost rs → rs ≡ p.routines → report ≡ report_of p
+report_by report n rs p e f h = e ∙ ap (λ (m : ℕ). record { charged_peak = 0; under_peak = 0; compactions = 0; offloads = 0; reloads = 0; cost_before = m; cost_after = m }) (f ∙ ap cost h)

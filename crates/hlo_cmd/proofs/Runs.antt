@@ -48,7 +48,7 @@ module _ (name : List ℕ) (told : Told) (turns shelf shelf_now : ℕ) (left lef
     complete_outcome given output p e text is_left run calm calm_out (Err (Module file fault)) h = absurd h
     complete_outcome given output p e text is_left run calm calm_out (Err (Link fault)) h = absurd h
     complete_outcome given output p e text is_left run calm calm_out (Err (Text fault)) h = absurd (no_fault told bytes p fault is_told text h.0)
-    complete_outcome given output p e text is_left run calm calm_out (Err (CannotRead file)) h = absurd (quiet h.1.0)
+    complete_outcome given output p e text is_left run calm calm_out (Err (CannotRead file)) h = absurd (quiet h.1)
     complete_outcome given output p e text is_left run calm calm_out (Err CannotWrite) h = absurd (calm_out h.0)
     complete_outcome given output p e text is_left run calm calm_out (Err CannotReadInput) h = absurd (calm h.0)
     complete_outcome given output p e text is_left run calm calm_out (Err Memory) h = inr refl
@@ -60,7 +60,7 @@ module _ (name : List ℕ) (told : Told) (turns shelf shelf_now : ℕ) (left lef
     refused_outcome none (Err (Module file fault)) h = absurd h
     refused_outcome none (Err (Link fault)) h = absurd h
     refused_outcome none (Err (Text fault)) h = inl refl
-    refused_outcome none (Err (CannotRead file)) h = absurd (quiet h.1.0)
+    refused_outcome none (Err (CannotRead file)) h = absurd (quiet h.1)
     refused_outcome none (Err CannotWrite) h = absurd (none h.1.program (held_text told bytes h.1.program is_told h.1.held).text)
     refused_outcome none (Err CannotReadInput) h = absurd (none h.1.program (held_text told bytes h.1.program is_told h.1.held).text)
     refused_outcome none (Err Memory) h = inr refl

@@ -1,5 +1,7 @@
 -- From a refusal of the words or of the files, and from acceptance, to what all commands over modules promise.
-use Rattle.std.proofs.Common.{◌≡◌, ℕ, ◌⊎◌, false, List, refl, sym, ◌∙◌, ap, subst, inl, inr, arith, nat_eq}
+use Rattle.std.proofs.Common.{◌≡◌, ℕ, ◌⊎◌, true, false, List, refl, sym, ◌∙◌, ap, subst, inl, inr, nat_eq, true≢false}
+use Rattle.std.proofs.lemmas.Bool.{eqb-false}
+use Rattle.c_module.specs.Programs.{IsProgramOf}
 use Rattle.c_module.specs.Told.{AreQuiet, AreRefused}
 use Rattle.c_module.specs.Verdict.{IsProgramCause, IsUnread, IsWant}
 use Rattle.c_module.specs.declared.fault.FileFault.TheVariants as file_fault
@@ -7,18 +9,37 @@ use Rattle.c_module.specs.declared.fault.ProgramFault.{ProgramFault}
 use Rattle.c_module.specs.declared.fault.ProgramFault.TheVariants.{File, Link, Memory}
 use Rattle.hlo_words.specs.declared.settings.WordsFault.{WordsFault}
 use Rattle.hlo_words.specs.declared.settings.WordsFault.TheVariants as words_fault
+use Rattle.il_core.specs.declared.program.IlProgram.{IlProgram}
 use Rattle.outside.specs.Told.{Told}
+use Rattle.profile.specs.Counts.{Counts, flat_counts}
 use Rattle.sym_tables.specs.Table.{Table}
 use Rattle.hlo_cmd.specs.Messages.{memory_line, program_refusal, refusal_line, refusal_status, words_refusal}
 use Rattle.hlo_cmd.specs.Modules.{ModulesPromise}
+use Rattle.hlo_cmd.specs.declared.refusal.Refusal.{Refusal}
 
 -- a status isn't two numbers
 pub not_both : {A : Type 0} (s m n : ℕ) → s ≡ m → s ≡ n → nat_eq m n ≡ false → A
-not_both s m n e f apart = let d : nat_eq m m ≡ false = ap (nat_eq m) (sym e ∙ f) ∙ apart in absurd (same_is_same m d)
-  where
-    same_is_same : (k : ℕ) → nat_eq k k ≡ false → ⊥
-    same_is_same zero d = cc
-    same_is_same (suc k) d = same_is_same k d
+not_both s m n e f apart = absurd (eqb-false m n apart (sym e ∙ f))
+
+-- what no answer that succeeded allows
+pub no_refusal : (A : Type 0) → (A → false ≡ true) → A → ⊥
+no_refusal A f h = true≢false (sym (f h))
+
+-- the status and the line of a refusal that is known as another one
+pub status_by : (status : ℕ) (r s : Refusal) → r ≡ s → status ≡ refusal_status r → status ≡ refusal_status s
+status_by status r s e h = h ∙ ap refusal_status e
+
+pub said_by : (Said : List ℕ → Type 0) (syms : Table) (r s : Refusal) → r ≡ s → Said (refusal_line syms r) → Said (refusal_line syms s)
+said_by Said syms r s e h = subst (λ x. Said (refusal_line syms x)) e h
+
+-- the line under names that are known as others
+pub said_under : (Said : List ℕ → Type 0) (old new : Table) (r : Refusal) → old ≡ new → Said (refusal_line old r) → Said (refusal_line new r)
+said_under Said old new r e h = subst (λ s. Said (refusal_line s r)) e h
+
+-- a program with the counts of the flat profile
+pub flat_program : (counts : Counts) (tells : List ℕ → Told) (files : List (List ℕ)) (program : IlProgram) (syms : Table) → counts ≡ flat_counts → IsProgramOf counts tells files program syms
+    → IsProgramOf flat_counts tells files program syms
+flat_program counts tells files program syms e h = subst (λ k. IsProgramOf k tells files program syms) e h
 
 -- want of memory has the status 10
 pub want_is_memory : (fault : ProgramFault) → IsWant fault → refusal_status (program_refusal fault) ≡ 10

