@@ -14,14 +14,19 @@ use std::{env, io};
 use stream::Stream;
 
 const HELP: &str = "\
-usage: hlo opt FILE                prints the IL of the C module in FILE
-       hlo check FILE...           checks that the FILEs are C modules that make a program
-       hlo runil [--turns N] FILE  runs the program whose IL is in FILE, with at most N
-                                   turns: 0 to 1000000000000, 1000000000 if not given
-       hlo --help                  prints this text
-       hlo --version               prints the version
-status: 0 success, 2 usage, 3 refused file, 5 cannot read a file, 6 cannot write, 10 out
-        of memory, 11 cannot read input, 12 trap, 13 out of turns, 14 no IL program
+usage: hlo opt FILE...              prints the IL of the program that the C modules in
+                                    the FILEs make
+       hlo check FILE...            checks that they make a program, and prints nothing
+       hlo run [--turns N] FILE...  runs that program on standard input and output
+       hlo runil [--turns N] FILE   runs the program whose IL is in FILE
+       hlo --help                   prints this text
+       hlo --version                prints the version
+options: --turns N  at most N turns, 0 to 1000000000000 (1000000000 if not given): each
+                    call and each way back to a loop's start takes one
+         1 to 64 FILEs; options may stand between them, and all words behind -- are FILEs
+status: 0 success, 2 usage, 3 refused file or program, 5 cannot read a file, 6 cannot
+        write, 10 out of memory, 11 cannot read input, 12 trap, 13 out of turns, 14 no
+        IL program
 ";
 
 const VERSION: &str = "hlo 0.1.0";

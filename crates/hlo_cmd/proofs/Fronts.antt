@@ -1,13 +1,11 @@
 -- Fronts of what is put out in pieces.
-use Rattle.std.proofs.Common.{◌≡◌, ℕ, zero, suc, ◌+◌, List, [], ◌∷◌, ◌++◌, length, take, Option, Result, Ok, Err, refl, sym, ◌∙◌, ap, subst, inl, inr}
-use Rattle.std.specs.Io.KnownBytes.{Appends}
+use Rattle.std.proofs.Common.{◌≡◌, ℕ, zero, suc, ◌+◌, List, [], ◌∷◌, ◌++◌, length, take, Option, Some, None, Result, Ok, Err, refl, sym, ◌∙◌, ap, subst, inl, inr, append-nil}
+use Rattle.std.specs.Io.KnownBytes.{Appends, Keeps}
 use Rattle.std.proofs.KnownBytes.{Appends-trans}
 use Rattle.std.proofs.Math.Seq.{take-append-add}
 use Rattle.outside.specs.Faults.{HasCause}
 use Rattle.outside.specs.Taken.{TakesAll}
-use Rattle.hlo_cmd.specs.Messages.{Says, status_line}
-use Rattle.hlo_cmd.specs.declared.refusal.Refusal.{Refusal}
-use Rattle.hlo_cmd.specs.Refusal.{status_of}
+use Rattle.hlo_cmd.specs.Messages.{Says}
 
 -- a front of a list is a front of it with more behind
 pub front_of_more : (k : ℕ) (xs ys : List ℕ) → (n : ℕ) × (take k xs ≡ take n (xs ++ ys))
@@ -32,10 +30,6 @@ pub says : {T E : Type 0} (before after : Option (List ℕ)) (old new : ℕ) (r 
 says before after old new (Ok x) bytes line e h cause = inl (subst (Appends before after) e h)
 says before after old new (Err f) bytes line e h cause = inr (record { rose = cause.failed; front = h.0; said = subst (λ l. Appends before after (take h.0 l)) e h.1 })
 
--- the line of a refusal
-pub line_of : (refusal known : Refusal) (file name : List ℕ) → refusal ≡ known → name ≡ file → status_line (status_of known) name ≡ status_line (status_of refusal) file
-line_of refusal known file name e f = ap (λ r. status_line (status_of r) name) (sym e) ∙ ap (status_line (status_of refusal)) f
-
 -- a whole piece, and then another one
 pub then_takes : {T E : Type 0} (a b c : Option (List ℕ)) (r : Result T E) (xs ys : List ℕ) → Appends a b xs → TakesAll b c r ys → TakesAll a c r (xs ++ ys)
 then_takes a b c (Ok x) xs ys h g = Appends-trans a b c xs ys h g
@@ -45,3 +39,12 @@ then_takes a b c (Err e) xs ys h g = then_failed a b c g.0 xs ys h g.1
 pub takes_line : {T E : Type 0} (a b : Option (List ℕ)) (r : Result T E) (bytes line : List ℕ) → bytes ≡ line → TakesAll a b r bytes → TakesAll a b r line
 takes_line a b (Ok x) bytes line e h = subst (Appends a b) e h
 takes_line a b (Err f) bytes line e h = (h.0, subst (λ l. Appends a b (take h.0 l)) e h.1)
+
+-- nothing was put out, and nothing was said
+pub keeps_itself : (taken : Option (List ℕ)) → Keeps taken taken
+keeps_itself None = tt
+keeps_itself (Some bytes) = refl
+
+pub says_nothing : (taken : Option (List ℕ)) (count : ℕ) → Says taken taken count count []
+says_nothing None count = inl tt
+says_nothing (Some bytes) count = inl (sym (append-nil bytes))

@@ -1,29 +1,40 @@
--- The lines on standard error.
-use Rattle.std.specs.Prelude.{◌≡◌, ℕ, ◌-◌, ◌^◌, ◌⊎◌, ◌++◌, ◌==◌, nat_lt, List, [], ◌∷◌, Option, take, if◌then◌else◌, codes, decimal}
+-- The table of refusals: the status and the line of each, for all commands; and those of a program's ending.
+use Rattle.std.specs.Prelude.{◌≡◌, ℕ, ◌-◌, ◌^◌, ◌⊎◌, ◌++◌, nat_lt, List, [], ◌∷◌, Option, take, if◌then◌else◌, codes, decimal, option_map, unwrap_or}
 use Rattle.std.specs.Io.KnownBytes.{Appends}
+use Rattle.std.specs.List.{slice_get}
+use Rattle.c_lex.specs.declared.fault.LexKind.{LexKind}
+use Rattle.c_lex.specs.declared.fault.LexKind.TheVariants.{BadByte, Directive, OpenComment, BadChar, BadNumber, TooBig, LeftOut, LongName}
+use Rattle.c_module.specs.declared.fault.FileFault.TheVariants as file_fault
+use Rattle.c_module.specs.declared.fault.ModuleFault.{ModuleFault}
+use Rattle.c_module.specs.declared.fault.ModuleFault.TheVariants as module_fault
+use Rattle.c_module.specs.declared.fault.ProgramFault.{ProgramFault}
+use Rattle.c_module.specs.declared.fault.ProgramFault.TheVariants as program_fault
+use Rattle.c_parse.specs.declared.fault.ParseKind.{ParseKind}
+use Rattle.c_parse.specs.declared.fault.ParseKind.TheVariants.{Unexpected, Deep}
+use Rattle.c_types.specs.declared.fault.TypeKind.{TypeKind}
+use Rattle.c_types.specs.declared.fault.TypeKind.TheVariants as kinds
 use Rattle.hlo_num.specs.declared.word.Trap.{Trap}
 use Rattle.hlo_num.specs.declared.word.Trap.TheVariants.{Divide, Quotient, Shift, Index}
+use Rattle.hlo_words.specs.declared.settings.WordsFault.{WordsFault}
+use Rattle.hlo_words.specs.declared.settings.WordsFault.TheVariants as words_fault
 use Rattle.il_check.specs.declared.flaw.Flaw.{Flaw}
 use Rattle.il_check.specs.declared.flaw.Flaw.TheVariants as flaws
 use Rattle.il_run.specs.declared.ending.Ending.{Ending}
 use Rattle.il_run.specs.declared.ending.Ending.TheVariants.{Exit, Trapped, OutOfTurns}
+use Rattle.il_run.specs.declared.ending.RunFault.{RunFault}
+use Rattle.il_run.specs.declared.ending.RunFault.TheVariants as run_fault
 use Rattle.il_text.specs.declared.fault.IlKind.{IlKind}
-use Rattle.il_text.specs.declared.fault.IlKind.TheVariants as kinds
+use Rattle.il_text.specs.declared.fault.IlKind.TheVariants as il_kinds
+use Rattle.linker.specs.declared.fault.LinkFault.{LinkFault}
+use Rattle.linker.specs.declared.fault.LinkFault.TheVariants.{Undefined, NoMain, MainType}
 use Rattle.outside.specs.Faults.{Rose}
-use Rattle.hlo_cmd.specs.declared.program_fault.ProgramFault.{ProgramFault}
-use Rattle.hlo_cmd.specs.declared.program_fault.ProgramFault.TheVariants.{TooLong, Text}
-use Rattle.hlo_cmd.specs.declared.program_fault.RunRefusal.{RunRefusal}
-use Rattle.hlo_cmd.specs.declared.program_fault.RunRefusal.TheVariants as refusal
-
--- the line that each status puts out on standard error
-abbrev pub status_line : ℕ → List ℕ → List ℕ
-status_line status file =
-    if status == 0 then []
-    else (if status == 2 then codes "hlo: usage" ++ 10 ∷ []
-    else (if status == 3 then codes "hlo: " ++ (file ++ (codes ": NotYet" ++ 10 ∷ []))
-    else (if status == 5 then codes "hlo: cannot read " ++ (file ++ 10 ∷ [])
-    else (if status == 6 then codes "hlo: cannot write" ++ 10 ∷ []
-    else (if status == 11 then codes "hlo: cannot read input" ++ 10 ∷ [] else codes "hlo: out of memory" ++ 10 ∷ [])))))
+use Rattle.sym_tables.specs.Table.{Table}
+use Rattle.hlo_cmd.specs.declared.print.PrintFault.{PrintFault}
+use Rattle.hlo_cmd.specs.declared.print.PrintFault.TheVariants as print_fault
+use Rattle.hlo_cmd.specs.declared.refusal.Refusal.{Refusal}
+use Rattle.hlo_cmd.specs.declared.refusal.Refusal.TheVariants as refusal
+use Rattle.hlo_cmd.specs.declared.refusal.TextFault.{TextFault}
+use Rattle.hlo_cmd.specs.declared.refusal.TextFault.TheVariants as texts
 
 -- a sink gained exactly these bytes, or a front of them where its count of faults rose
 pub record SaysFront (before after : Option (List ℕ)) (old_count new_count : ℕ) (bytes : List ℕ) : Type 0 where
@@ -37,6 +48,157 @@ Says before after old_count new_count bytes = Appends before after bytes ⊎ Say
 -- the line of a fault with a place
 abbrev pub place_line : List ℕ → ℕ → List ℕ → List ℕ
 place_line file line kind = codes "hlo: " ++ (file ++ (codes ":" ++ (decimal line ++ (codes ": " ++ (kind ++ 10 ∷ [])))))
+
+-- the name of a kind of lexical fault
+abbrev pub lexical_kind : LexKind → List ℕ
+lexical_kind BadByte = codes "BadByte"
+lexical_kind Directive = codes "Directive"
+lexical_kind OpenComment = codes "OpenComment"
+lexical_kind BadChar = codes "BadChar"
+lexical_kind BadNumber = codes "BadNumber"
+lexical_kind TooBig = codes "TooBig"
+lexical_kind LeftOut = codes "LeftOut"
+lexical_kind LongName = codes "LongName"
+
+-- the name of a kind of syntax fault
+abbrev pub syntax_kind : ParseKind → List ℕ
+syntax_kind Unexpected = codes "Unexpected"
+syntax_kind Deep = codes "Deep"
+
+-- the name of a rule of types or linkage
+abbrev pub type_kind : TypeKind → List ℕ
+type_kind kinds.Specifiers = codes "Specifiers"
+type_kind kinds.Undeclared = codes "Undeclared"
+type_kind kinds.Redeclared = codes "Redeclared"
+type_kind kinds.TypeClash = codes "TypeClash"
+type_kind kinds.Duplicate = codes "Duplicate"
+type_kind kinds.Linkage = codes "Linkage"
+type_kind kinds.Library = codes "Library"
+type_kind kinds.ArraySize = codes "ArraySize"
+type_kind kinds.Initialiser = codes "Initialiser"
+type_kind kinds.TooMany = codes "TooMany"
+type_kind kinds.NotConstant = codes "NotConstant"
+type_kind kinds.ConstTrap = codes "ConstTrap"
+type_kind kinds.EnumRange = codes "EnumRange"
+type_kind kinds.NotObject = codes "NotObject"
+type_kind kinds.NotFunction = codes "NotFunction"
+type_kind kinds.Arguments = codes "Arguments"
+type_kind kinds.VoidValue = codes "VoidValue"
+type_kind kinds.NotLvalue = codes "NotLvalue"
+type_kind kinds.ConstWrite = codes "ConstWrite"
+type_kind kinds.BreakOutside = codes "BreakOutside"
+type_kind kinds.ContinueOutside = codes "ContinueOutside"
+type_kind kinds.CaseOutside = codes "CaseOutside"
+type_kind kinds.CaseRepeat = codes "CaseRepeat"
+type_kind kinds.ReturnValue = codes "ReturnValue"
+type_kind kinds.NoName = codes "NoName"
+
+-- the name of a flaw of a routine
+abbrev pub flaw_name : Flaw → List ℕ
+flaw_name flaws.Params = codes "Params"
+flaw_name flaws.Register = codes "Register"
+flaw_name flaws.Array = codes "Array"
+flaw_name flaws.Object = codes "Object"
+flaw_name flaws.Callee = codes "Callee"
+flaw_name flaws.Arguments = codes "Arguments"
+flaw_name flaws.Result = codes "Result"
+flaw_name flaws.Target = codes "Target"
+flaw_name flaws.ReturnKind = codes "ReturnKind"
+
+-- the name of what is wrong with a text of IL
+abbrev pub il_kind : IlKind → List ℕ
+il_kind il_kinds.Line = codes "Line"
+il_kind il_kinds.Order = codes "Order"
+il_kind (il_kinds.Invalid flaw) = flaw_name flaw
+il_kind il_kinds.NoMain = codes "NoMain"
+
+-- the line that tells what is wrong with a program's text
+abbrev pub text_line : TextFault → List ℕ
+text_line texts.TooLong = codes "hlo: il: TooLong" ++ 10 ∷ []
+text_line (texts.At line kind) = place_line (codes "il") line (il_kind kind)
+
+-- ---- refusals
+
+-- the bytes of the name of a PID, none where no name has it
+abbrev pub name_of : Table → ℕ → List ℕ
+name_of syms pid = unwrap_or (option_map (λ e. e.0) (slice_get syms pid)) []
+
+-- the line that tells what is wrong with the bytes of a file that should be a module, where the modules have these names
+abbrev pub module_line : Table → List ℕ → ModuleFault → List ℕ
+module_line syms file module_fault.TooLong = codes "hlo: " ++ (file ++ (codes ": TooLong" ++ 10 ∷ []))
+module_line syms file (module_fault.Lexical line kind) = place_line file line (lexical_kind kind)
+module_line syms file (module_fault.Syntax line kind) = place_line file line (syntax_kind kind)
+module_line syms file (module_fault.Typing line kind) = place_line file line (type_kind kind)
+module_line syms file (module_fault.TooLarge pid) = codes "hlo: " ++ (name_of syms pid ++ (codes ": TooLarge" ++ 10 ∷ []))
+
+-- the line that tells why modules with these names don't link
+abbrev pub link_line : Table → LinkFault → List ℕ
+link_line syms (Undefined pid) = codes "hlo: link: Undefined " ++ (name_of syms pid ++ 10 ∷ [])
+link_line syms NoMain = codes "hlo: link: NoMain" ++ 10 ∷ []
+link_line syms MainType = codes "hlo: link: MainType" ++ 10 ∷ []
+
+-- the line that tells that a file can't be read
+abbrev pub unread_line : List ℕ → List ℕ
+unread_line file = codes "hlo: cannot read " ++ (file ++ 10 ∷ [])
+
+-- the lines that name nothing
+abbrev pub usage_line : List ℕ
+usage_line = codes "hlo: usage" ++ 10 ∷ []
+
+abbrev pub unwritten_line : List ℕ
+unwritten_line = codes "hlo: cannot write" ++ 10 ∷ []
+
+abbrev pub no_input_line : List ℕ
+no_input_line = codes "hlo: cannot read input" ++ 10 ∷ []
+
+abbrev pub memory_line : List ℕ
+memory_line = codes "hlo: out of memory" ++ 10 ∷ []
+
+-- the line of each refusal, where the modules have these names
+abbrev pub refusal_line : Table → Refusal → List ℕ
+refusal_line syms refusal.Usage = usage_line
+refusal_line syms (refusal.Module file fault) = module_line syms file.now fault
+refusal_line syms (refusal.Link fault) = link_line syms fault
+refusal_line syms (refusal.Text fault) = text_line fault
+refusal_line syms (refusal.CannotRead file) = unread_line file.now
+refusal_line syms refusal.CannotWrite = unwritten_line
+refusal_line syms refusal.CannotReadInput = no_input_line
+refusal_line syms refusal.Memory = memory_line
+
+-- its status
+abbrev pub refusal_status : Refusal → ℕ
+refusal_status refusal.Usage = 2
+refusal_status (refusal.Module file fault) = 3
+refusal_status (refusal.Link fault) = 3
+refusal_status (refusal.Text fault) = 14
+refusal_status (refusal.CannotRead file) = 5
+refusal_status refusal.CannotWrite = 6
+refusal_status refusal.CannotReadInput = 11
+refusal_status refusal.Memory = 10
+
+-- the refusal of words that give no settings, of files that give no program, of a text that wasn't put out, and of a program
+-- that didn't run to its end
+abbrev pub words_refusal : WordsFault → Refusal
+words_refusal words_fault.Usage = refusal.Usage
+words_refusal words_fault.Memory = refusal.Memory
+
+abbrev pub program_refusal : ProgramFault → Refusal
+program_refusal (program_fault.File file (file_fault.NoModule fault)) = refusal.Module file fault
+program_refusal (program_fault.File file file_fault.CannotRead) = refusal.CannotRead file
+program_refusal (program_fault.File file file_fault.Memory) = refusal.Memory
+program_refusal (program_fault.Link fault) = refusal.Link fault
+program_refusal program_fault.Memory = refusal.Memory
+
+abbrev pub print_refusal : PrintFault → Refusal
+print_refusal print_fault.Output = refusal.CannotWrite
+print_refusal print_fault.Memory = refusal.Memory
+
+abbrev pub run_refusal : RunFault → Refusal
+run_refusal run_fault.Input = refusal.CannotReadInput
+run_refusal run_fault.Output = refusal.CannotWrite
+run_refusal run_fault.Memory = refusal.Memory
+
+-- ---- endings
 
 -- a word as a signed number
 abbrev pub signed_decimal : ℕ → List ℕ
@@ -64,42 +226,3 @@ abbrev pub ending_status : Ending → ℕ
 ending_status (Exit w) = 0
 ending_status (Trapped t) = 12
 ending_status OutOfTurns = 13
-
--- the name of a flaw of a routine
-abbrev pub flaw_name : Flaw → List ℕ
-flaw_name flaws.Params = codes "Params"
-flaw_name flaws.Register = codes "Register"
-flaw_name flaws.Array = codes "Array"
-flaw_name flaws.Object = codes "Object"
-flaw_name flaws.Callee = codes "Callee"
-flaw_name flaws.Arguments = codes "Arguments"
-flaw_name flaws.Result = codes "Result"
-flaw_name flaws.Target = codes "Target"
-flaw_name flaws.ReturnKind = codes "ReturnKind"
-
--- the name of what is wrong with a text of IL
-abbrev pub il_kind : IlKind → List ℕ
-il_kind kinds.Line = codes "Line"
-il_kind kinds.Order = codes "Order"
-il_kind (kinds.Invalid flaw) = flaw_name flaw
-il_kind kinds.NoMain = codes "NoMain"
-
--- the line that tells what is wrong with a program's text
-abbrev pub program_line : ProgramFault → List ℕ
-program_line TooLong = codes "hlo: il: TooLong" ++ 10 ∷ []
-program_line (Text line kind) = place_line (codes "il") line (il_kind kind)
-
--- the line and the status of a program that didn't run to its end
-abbrev pub run_line : RunRefusal → List ℕ → List ℕ
-run_line refusal.CannotRead file = status_line 5 file
-run_line (refusal.NoProgram fault) file = program_line fault
-run_line refusal.Input file = status_line 11 []
-run_line refusal.Output file = status_line 6 []
-run_line refusal.Memory file = status_line 10 []
-
-abbrev pub run_status : RunRefusal → ℕ
-run_status refusal.CannotRead = 5
-run_status (refusal.NoProgram fault) = 14
-run_status refusal.Input = 11
-run_status refusal.Output = 6
-run_status refusal.Memory = 10

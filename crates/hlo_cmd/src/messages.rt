@@ -1,47 +1,54 @@
-//! The lines of `check` on standard error.
+//! The line of each refusal.
 ghost use Rattle.std.specs.Prelude.{◌≡◌};
 ghost use Rattle.outside.specs.Faults.{HasCause};
 ghost use Rattle.outside.specs.Taken.{TakesAll};
-ghost use Rattle.hlo_cmd.specs.Messages.{Says};
-ghost use Rattle.hlo_cmd.specs.declared.module_fault.FileFault.TheVariants.{NoModule};
-ghost use Rattle.hlo_cmd.specs.Plain.{check_line, fault_line, lexical_kind, link_line, name_of, syntax_kind, type_kind};
+ghost use Rattle.hlo_cmd.specs.Messages.{Says, link_line, module_line, name_of, refusal_line, refusal_status, text_line};
 
-use crate::check::CheckRefusal;
-use crate::module_fault::{FileFault, ModuleFault};
+use crate::kinds::{il_name, lexical_name, syntax_name, type_name};
 use crate::pieces::{write_place, write_three};
-use c_lex::LexKind;
-use c_parse::ParseKind;
-use c_types::TypeKind;
+use crate::refusal::{Refusal, TextFault};
+use crate::report::Status;
+use c_module::ModuleFault;
 use linker::LinkFault;
 use outside::{Failed, Sink, write_all};
 use sym_tables::ProgramSyms;
 
-/// Writes the line of a refusal, where the modules have the names of `syms`. A failure changes nothing else.
-pub(crate) fn tell_check<E: Sink>(err: &mut E, refusal: CheckRefusal<'_>, syms: &ProgramSyms)
-    ensures { Says (E.taken err.old) (E.taken err.new) (E.faults err.old) (E.faults err.new) (check_line syms.now refusal.entry) }
+/// Writes the line of a refusal, where the modules have the names of `syms`, and gives its status. A failure
+/// changes nothing else.
+pub(crate) fn refused<E: Sink>(err: &mut E, refusal: Refusal<'_>, syms: &ProgramSyms) -> Status
+    ensures status { result.0 ≡ refusal_status refusal.entry }
+    ensures line { Says (E.taken err.old) (E.taken err.new) (E.faults err.old) (E.faults err.new) (refusal_line syms.now refusal.entry) }
+{
+    tell(err, refusal, syms);
+    Status(refusal.status())
+}
+
+/// Writes the line of a refusal.
+fn tell<E: Sink>(err: &mut E, refusal: Refusal<'_>, syms: &ProgramSyms)
+    ensures { Says (E.taken err.old) (E.taken err.new) (E.faults err.old) (E.faults err.new) (refusal_line syms.now refusal.entry) }
 {
     let _ = match refusal {
-        CheckRefusal::Usage => write_all(err, b"hlo: usage\n"),
-        CheckRefusal::File(file, fault) => write_fault(err, file.as_bytes(), fault),
-        CheckRefusal::Link(fault) => write_link_fault(err, syms, fault),
+        Refusal::Usage => write_all(err, b"hlo: usage\n"),
+        Refusal::Module(file, fault) => write_module_fault(err, syms, file.as_bytes(), fault),
+        Refusal::Link(fault) => write_link_fault(err, syms, fault),
+        Refusal::Text(fault) => write_text_fault(err, fault),
+        Refusal::CannotRead(file) => {
+            write_three(err, b"hlo: cannot read ", file.as_bytes(), b"\n")
+        }
+        Refusal::CannotWrite => write_all(err, b"hlo: cannot write\n"),
+        Refusal::CannotReadInput => write_all(err, b"hlo: cannot read input\n"),
+        Refusal::Memory => write_all(err, b"hlo: out of memory\n"),
     };
 }
 
-/// Writes the line that tells what is wrong with a file.
-fn write_fault<E: Sink>(err: &mut E, file: &[u8], fault: FileFault) -> Result<(), Failed>
-    ensures bytes { TakesAll (E.taken err.old) (E.taken err.new) result (fault_line file.now fault) }
-    ensures cause { HasCause (E.faults err.old) (E.faults err.new) result }
-{
-    match fault {
-        FileFault::NoModule(fault) => write_module_fault(err, file, fault),
-        FileFault::CannotRead => write_three(err, b"hlo: cannot read ", file, b"\n"),
-        FileFault::Memory => write_all(err, b"hlo: out of memory\n"),
-    }
-}
-
-/// Writes the line that tells what is wrong with the bytes of a file.
-fn write_module_fault<E: Sink>(err: &mut E, file: &[u8], fault: ModuleFault) -> Result<(), Failed>
-    ensures bytes { TakesAll (E.taken err.old) (E.taken err.new) result (fault_line file.now (NoModule fault)) }
+/// Writes the line that tells what is wrong with the bytes of a file that should be a module.
+fn write_module_fault<E: Sink>(
+    err: &mut E,
+    syms: &ProgramSyms,
+    file: &[u8],
+    fault: ModuleFault,
+) -> Result<(), Failed>
+    ensures bytes { TakesAll (E.taken err.old) (E.taken err.new) result (module_line syms.now file.now fault) }
     ensures cause { HasCause (E.faults err.old) (E.faults err.new) result }
 {
     match fault {
@@ -49,6 +56,9 @@ fn write_module_fault<E: Sink>(err: &mut E, file: &[u8], fault: ModuleFault) -> 
         ModuleFault::Lexical { line, kind } => write_place(err, file, line, lexical_name(kind)),
         ModuleFault::Syntax { line, kind } => write_place(err, file, line, syntax_name(kind)),
         ModuleFault::Typing { line, kind } => write_place(err, file, line, type_name(kind)),
+        ModuleFault::TooLarge { pid } => {
+            write_three(err, b"hlo: ", name_of(syms, pid), b": TooLarge\n")
+        }
     }
 }
 
@@ -80,61 +90,13 @@ fn name_of(syms: &ProgramSyms, pid: u32) -> &[u8]
     }
 }
 
-/// The name of a kind of lexical fault.
-fn lexical_name(kind: LexKind) -> &'static str
-    ensures { result.now ≡ lexical_kind kind }
+/// Writes the line that tells what is wrong with a program's text.
+fn write_text_fault<E: Sink>(err: &mut E, fault: TextFault) -> Result<(), Failed>
+    ensures bytes { TakesAll (E.taken err.old) (E.taken err.new) result (text_line fault) }
+    ensures cause { HasCause (E.faults err.old) (E.faults err.new) result }
 {
-    match kind {
-        LexKind::BadByte => "BadByte",
-        LexKind::Directive => "Directive",
-        LexKind::OpenComment => "OpenComment",
-        LexKind::BadChar => "BadChar",
-        LexKind::BadNumber => "BadNumber",
-        LexKind::TooBig => "TooBig",
-        LexKind::LeftOut => "LeftOut",
-        LexKind::LongName => "LongName",
-    }
-}
-
-/// The name of a kind of syntax fault.
-fn syntax_name(kind: ParseKind) -> &'static str
-    ensures { result.now ≡ syntax_kind kind }
-{
-    match kind {
-        ParseKind::Unexpected => "Unexpected",
-        ParseKind::Deep => "Deep",
-    }
-}
-
-/// The name of a rule of types or linkage.
-fn type_name(kind: TypeKind) -> &'static str
-    ensures { result.now ≡ type_kind kind }
-{
-    match kind {
-        TypeKind::Specifiers => "Specifiers",
-        TypeKind::Undeclared => "Undeclared",
-        TypeKind::Redeclared => "Redeclared",
-        TypeKind::TypeClash => "TypeClash",
-        TypeKind::Duplicate => "Duplicate",
-        TypeKind::Linkage => "Linkage",
-        TypeKind::Library => "Library",
-        TypeKind::ArraySize => "ArraySize",
-        TypeKind::Initialiser => "Initialiser",
-        TypeKind::TooMany => "TooMany",
-        TypeKind::NotConstant => "NotConstant",
-        TypeKind::ConstTrap => "ConstTrap",
-        TypeKind::EnumRange => "EnumRange",
-        TypeKind::NotObject => "NotObject",
-        TypeKind::NotFunction => "NotFunction",
-        TypeKind::Arguments => "Arguments",
-        TypeKind::VoidValue => "VoidValue",
-        TypeKind::NotLvalue => "NotLvalue",
-        TypeKind::ConstWrite => "ConstWrite",
-        TypeKind::BreakOutside => "BreakOutside",
-        TypeKind::ContinueOutside => "ContinueOutside",
-        TypeKind::CaseOutside => "CaseOutside",
-        TypeKind::CaseRepeat => "CaseRepeat",
-        TypeKind::ReturnValue => "ReturnValue",
-        TypeKind::NoName => "NoName",
+    match fault {
+        TextFault::TooLong => write_all(err, b"hlo: il: TooLong\n"),
+        TextFault::At { line, kind } => write_place(err, b"il", line, il_name(kind)),
     }
 }

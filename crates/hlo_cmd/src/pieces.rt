@@ -2,10 +2,8 @@
 ghost use Rattle.std.specs.Prelude.{◌++◌};
 ghost use Rattle.outside.specs.Faults.{HasCause};
 ghost use Rattle.outside.specs.Taken.{TakesAll};
-ghost use Rattle.hlo_cmd.specs.Messages.{Says, place_line, status_line};
-ghost use Rattle.hlo_cmd.specs.Refusal.{status_of};
+ghost use Rattle.hlo_cmd.specs.Messages.{place_line};
 
-use crate::refusal::Refusal;
 use itoa::Buffer;
 use outside::{Failed, Sink, write_all};
 
@@ -35,18 +33,4 @@ pub(crate) fn write_place<E: Sink>(
     write_three(err, b"hlo: ", file, b":")?;
     write_three(err, number.as_bytes(), b": ", kind.as_bytes())?;
     write_all(err, b"\n")
-}
-
-/// Writes the line of a refusal. A failure changes nothing else.
-pub(crate) fn tell<E: Sink>(err: &mut E, refusal: Refusal, file: &str)
-    ensures { Says (E.taken err.old) (E.taken err.new) (E.faults err.old) (E.faults err.new) (status_line (status_of refusal) file.now) }
-{
-    let name = file.as_bytes();
-    let _ = match refusal {
-        Refusal::Usage => write_all(err, b"hlo: usage\n"),
-        Refusal::NotYet => write_three(err, b"hlo: ", name, b": NotYet\n"),
-        Refusal::CannotRead => write_three(err, b"hlo: cannot read ", name, b"\n"),
-        Refusal::CannotWrite => write_all(err, b"hlo: cannot write\n"),
-        Refusal::Memory => write_all(err, b"hlo: out of memory\n"),
-    };
 }

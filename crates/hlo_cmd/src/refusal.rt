@@ -1,35 +1,103 @@
-//! Why `opt` doesn't answer 0.
+//! Why a command doesn't do what its words ask for.
 ghost use Rattle.std.specs.Prelude.{◌≡◌};
-ghost use Rattle.hlo_cmd.specs.Refusal.{status_of};
+ghost use Rattle.hlo_cmd.specs.Messages.{print_refusal, program_refusal, refusal_status, run_refusal, words_refusal};
 
-use crate::fault::Fault;
+use crate::print::PrintFault;
+use c_module::{FileFault, ModuleFault, ProgramFault};
+use hlo_words::WordsFault;
+use il_run::RunFault;
+use il_text::IlKind;
+use linker::LinkFault;
 
-/// Why `opt` doesn't answer 0.
+/// What is wrong with the bytes of a file that should have a program's text.
 #[derive(Clone, Copy, PartialEq, Eq)]
-pub(crate) enum Refusal {
-    /// The words aren't `opt FILE`.
+pub(crate) enum TextFault {
+    /// There are too many.
+    TooLong,
+    /// They are the text of no program.
+    At { line: u32, kind: IlKind },
+}
+
+/// Why a command doesn't do what its words ask for, with the file that its line tells.
+#[derive(Clone, Copy)]
+pub(crate) enum Refusal<'a> {
+    /// The words give no settings.
     Usage,
-    /// The file isn't of the grammar so far.
-    NotYet,
-    /// The shelf failed.
-    CannotRead,
-    /// The sink failed.
+    /// What is wrong with the bytes of a file that should be a module.
+    Module(&'a str, ModuleFault),
+    /// The modules make no program.
+    Link(LinkFault),
+    /// What is wrong with the bytes of a file that should have a program's text.
+    Text(TextFault),
+    /// Reading this file failed.
+    CannotRead(&'a str),
+    /// The sink of the output failed.
     CannotWrite,
+    /// The source of the program's input failed.
+    CannotReadInput,
     /// Memory ran out.
     Memory,
 }
 
-impl Refusal {
+impl<'a> Refusal<'a> {
     /// The status that it ends with.
     pub(crate) fn status(self) -> u8
-        ensures { result ≡ status_of self }
+        ensures { result ≡ refusal_status self.entry }
     {
         match self {
             Refusal::Usage => 2,
-            Refusal::NotYet => 3,
-            Refusal::CannotRead => 5,
+            Refusal::Module(_, _) | Refusal::Link(_) => 3,
+            Refusal::CannotRead(_) => 5,
             Refusal::CannotWrite => 6,
             Refusal::Memory => 10,
+            Refusal::CannotReadInput => 11,
+            Refusal::Text(_) => 14,
         }
+    }
+}
+
+/// Why words give no settings.
+pub(crate) fn words_refusal(fault: WordsFault) -> Refusal<'static>
+    ensures { result ≡ words_refusal fault }
+{
+    match fault {
+        WordsFault::Usage => Refusal::Usage,
+        WordsFault::Memory => Refusal::Memory,
+    }
+}
+
+/// Why files give no program.
+pub(crate) fn program_refusal<'a>(fault: ProgramFault<'a>) -> Refusal<'a>
+    ensures { result ≡ program_refusal fault.entry }
+{
+    match fault {
+        ProgramFault::File(file, fault) => match fault {
+            FileFault::NoModule(fault) => Refusal::Module(file, fault),
+            FileFault::CannotRead => Refusal::CannotRead(file),
+            FileFault::Memory => Refusal::Memory,
+        },
+        ProgramFault::Link(fault) => Refusal::Link(fault),
+        ProgramFault::Memory => Refusal::Memory,
+    }
+}
+
+/// Why a text wasn't put out.
+pub(crate) fn print_refusal(fault: PrintFault) -> Refusal<'static>
+    ensures { result ≡ print_refusal fault }
+{
+    match fault {
+        PrintFault::Output => Refusal::CannotWrite,
+        PrintFault::Memory => Refusal::Memory,
+    }
+}
+
+/// Why a program didn't run to its end.
+pub(crate) fn run_refusal(fault: RunFault) -> Refusal<'static>
+    ensures { result ≡ run_refusal fault }
+{
+    match fault {
+        RunFault::Input => Refusal::CannotReadInput,
+        RunFault::Output => Refusal::CannotWrite,
+        RunFault::Memory => Refusal::Memory,
     }
 }

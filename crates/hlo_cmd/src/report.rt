@@ -1,8 +1,9 @@
 //! What the program ends with.
 ghost use Rattle.std.specs.Prelude.{◌≡◌};
 
-/// The exit status of the program: 0 for success, 2 for words that no command has, 3 for a file that is
-/// refused, 5 and 6 where reading and writing failed, and 10 where memory ran out.
+/// The exit status of the program: 0 for success, 2 for words that no command has, 3 for files that are refused, 5, 6 and
+/// 11 where reading a file, writing and reading the input failed, 10 where memory ran out, 12 and 13 where a program
+/// trapped or wanted a turn more, 14 for a text that is no program's.
 #[derive(Clone, Copy, Debug, PartialEq, Eq)]
 pub struct Status(pub u8);
 
