@@ -1,0 +1,18 @@
+use Rattle.c_module.proofs.Going.{reads, refuses, wants}
+use Rattle.c_module.proofs.program.lowered_program.Goals as goal
+
+pub returns-clause-complete : goal.returns-clause-complete
+returns-clause-complete g c = λ names told links quiet.
+    wants (g.S.Shelf.tells c.args.shelf.now) (g.S.Shelf.faults c.args.shelf.now) (g.S.Shelf.faults c.program_in_order.new.shelf) c.args.files.now
+    c.program_in_order.result c.program_in_order.new.syms c.program_in_order.ensures.err names told links quiet
+
+pub returns-clause-refuses : goal.returns-clause-refuses
+returns-clause-refuses g c = λ refused.
+    refuses (g.S.Shelf.tells c.args.shelf.now) (g.S.Shelf.faults c.args.shelf.now) (g.S.Shelf.faults c.program_in_order.new.shelf) c.args.files.now
+    c.program_in_order.result c.program_in_order.new.syms
+    (λ x is. record { modules = is.modules; ts = is.ts; accepted = is.accepted }) c.program_in_order.ensures.ok refused
+
+pub returns-clause-reads : goal.returns-clause-reads
+returns-clause-reads g c = λ quiet.
+    reads (g.S.Shelf.tells c.args.shelf.now) (g.S.Shelf.faults c.args.shelf.now) (g.S.Shelf.faults c.program_in_order.new.shelf) c.args.files.now
+    c.program_in_order.result c.program_in_order.new.syms c.program_in_order.ensures.err quiet

@@ -1,0 +1,9 @@
+pub mod Appending
+pub mod Assembling
+pub mod Files
+pub mod Limits
+pub mod ModuleFaults
+pub mod Programs
+pub mod Texts
+pub mod Told
+pub mod Verdict
