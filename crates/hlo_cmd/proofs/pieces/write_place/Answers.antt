@@ -18,4 +18,5 @@ returns-in_err-write_three-2-clause-bytes g c =
 pub returns-clause-bytes : goal.returns-clause-bytes
 returns-clause-bytes g c =
     last_takes _ _ _ _ c.write_all.result c.args.file.now c.as_bytes.result.now c.as_bytes-2.result.now c.args.kind.now c.args.line
-    (c.as_bytes.ensures.value ∙ c.format-number.ensures.text) c.as_bytes-2.ensures.value c.in_ok-write_three.ensures.bytes c.in_ok-write_three-2.ensures.bytes c.write_all.ensures.bytes
+    (c.as_bytes.ensures.value ∙ c.format-number.ensures.text) c.as_bytes-2.ensures.value c.in_ok-write_three.ensures.bytes
+    c.in_ok-write_three-2.ensures.bytes c.write_all.ensures.bytes
