@@ -1,28 +1,28 @@
 -- A loop over blocks whose ends are folded.
-use Rattle.std.proofs.Common.{◌≡◌, ℕ, ◌+◌, ◌<◌, List, [], ◌∷◌, ◌++◌, get_or, set, drop, take, length, refl, ap, subst, sym, ◌∙◌, arith}
-use Rattle.std.specs.Prelude.{Option, Bool, nat_eq, if◌then◌else◌}
+use Rattle.std.proofs.Common.{◌≡◌, ℕ, ◌+◌, ◌<◌, List, [], ◌∷◌, ◌++◌, get_or, set, drop, take, length, refl, ap, subst, sym, ◌∙◌, arith, eq-eqb}
+use Rattle.std.specs.Prelude.{Option, Bool, true, nat_eq, if◌then◌else◌}
 use Rattle.std.specs.List.{AllByRecursion}
-use Rattle.std.proofs.lemmas.List.{take_at}
 use Rattle.il_core.specs.declared.instr.Block.{Block}
 use Rattle.il_core.specs.declared.instr.End.{End}
 use Rattle.il_core.specs.declared.instr.End.TheVariants as ends
 use Rattle.il_core.specs.declared.shape.ShapeRow.{ShapeRow}
 use Rattle.il_core.specs.Routine.{RoutineParts}
+use Rattle.il_core.specs.Operands.{end_reads}
 use Rattle.il_core.specs.Valid.{IsValidEnd, AreValidBlocks}
 use Rattle.il_laws.specs.Facts.{Facts, facts_at, through}
 use Rattle.il_laws.specs.Propagate.{taken, folded, folded_block}
 use Rattle.const_prop.specs.Tables.{NamesRegisters, AreNamed, IsValidRoutine, facts_in, Has}
-use Rattle.const_prop.specs.Flow.{Entered, Left, bare, start_of}
+use Rattle.const_prop.specs.Carried.{picked}
+use Rattle.const_prop.specs.Flow.{Entered, Left, Starts, bare}
 use Rattle.const_prop.specs.declared.flow.Flow.{Flow}
 use Rattle.list_laws.proofs.Elements.{all_drop}
-use Rattle.const_prop.proofs.Through.{Agree}
-use Rattle.const_prop.proofs.BlockSteps.{Changed, read_rest, named_block, through_as, follows_next, change_next}
+use Rattle.const_prop.proofs.BlockSteps.{Going, read_rest, named_block, end_as, follows_next, change_next}
 use Rattle.cleanup.specs.Ends.{ReadsRegister, EndsRead}
 
-folded_same : (n : ℕ) (e : End) (fs gs : Facts) → ReadsRegister n e → Agree n fs gs → folded fs e ≡ folded gs e
+folded_same : (n : ℕ) (e : End) (fs gs : Facts) → ReadsRegister n e → ((x : ℕ) → x < n → end_reads e x ≡ true → fs x ≡ gs x) → folded fs e ≡ folded gs e
 folded_same n (ends.Jump t) fs gs m h = refl
 folded_same n (ends.Branch r t u) fs gs m h =
-    ap (λ (o : Option ℕ). if nat_eq t u then ends.Jump t else taken (ends.Branch r t u) t u o) (h.at r m)
+    ap (λ (o : Option ℕ). if nat_eq t u then ends.Jump t else taken (ends.Branch r t u) t u o) (h r m (eq-eqb r r refl))
 folded_same n (ends.Loop t) fs gs m h = refl
 folded_same n (ends.Return r) fs gs m h = refl
 folded_same n (ends.Exit r) fs gs m h = refl
@@ -38,27 +38,28 @@ end_named n m bs now b d reads size lt rest read same =
     let again : x ≡ get_or now b x = ap (λ (y : Block). get_or now b y) read in
     subst (λ (c : ℕ). ReadsRegister c x.end) (sym same) (end_block n bs b x reads (read_rest bs now b x size lt rest again))
 
-pub fold_next : (n k : ℕ) (bs : List Block) (b : ℕ) (d y : Block) (f f1 f2 : Flow) (t u : List (Option ℕ)) (now : List Block) → AreNamed n bs → EndsRead n bs
-    → b < length now → d ≡ get_or now b d → Changed folded_block n k bs b f now → Has f.regs t (start_of f b) → Entered f f1 b
+pub fold_next : (n k : ℕ) (bs : List Block) (b : ℕ) (d y : Block) (f f1 f2 : Flow) (s t u : List (Option ℕ)) (now : List Block) → AreNamed n bs → EndsRead n bs
+    → b < length now → d ≡ get_or now b d → Going folded_block n k bs b f s now → length t ≡ length s → Starts f b t → Entered f f1 b
     → y ≡ record { instrs = (get_or now b d).instrs; end = folded (facts_in u) (get_or now b d).end } → Has (length t) u (through (get_or now b d).instrs (facts_in t))
-    → (len : ℕ) (rest : List (Option ℕ)) → length u ≡ len → Left b (get_or now b d).end (take len (u ++ rest)) f1 f2
-    → Changed folded_block n k bs (b + 1) f2 (set now b y)
-fold_next n k bs b d y f f1 f2 t u now named reads lt read c starts e is has len others count l =
+    → Left (get_or now b d).end (picked f1.carried.items u) f1 f2 → Going folded_block n k bs (b + 1) f2 u (set now b y)
+fold_next n k bs b d y f f1 f2 s t u now named reads lt read g same starts e is has left =
+    let c = g.changed in
     let x : Block = get_or now b d in
     let again : x ≡ get_or now b x = ap (λ (z : Block). get_or now b z) read in
     let here : drop b bs ≡ x ∷ drop (b + 1) bs = read_rest bs now b x c.count lt c.rest again in
     let size = c.count in
     let within : b < length bs = omega arith in
     let mine : AllByRecursion (NamesRegisters n) x.instrs = named_block n bs b x named here in
-    let at_start : Has n t (start_of f b) = subst (λ (m : ℕ). Has m t (start_of f b)) c.follows.regs starts in
-    let behind : Has n u (through x.instrs (facts_in t)) = subst (λ (m : ℕ). Has m u (through x.instrs (facts_in t))) at_start.size has in
-    let left : Left b x.end u f1 f2 = subst (λ (w : List (Option ℕ)). Left b x.end w f1 f2) (take_at u others len count) l in
-    let all : Has n u (through x.instrs (facts_at (bare k bs) b)) = through_as n k bs b x f f1 f2 t u within mine here c.follows at_start behind in
-    let agree : Agree n (facts_in u) (through x.instrs (facts_at (bare k bs) b)) = record { at = all.at } in
-    let same : y ≡ folded_block (facts_at (bare k bs) b) x = is
+    let behind : Has n u (through x.instrs (facts_in t)) = subst (λ (m : ℕ). Has m u (through x.instrs (facts_in t))) (same ∙ g.size) has in
+    let folds : y ≡ folded_block (facts_at (bare k bs) b) x = is
     ∙ ap (λ (e1 : End). let z : Block = record { instrs = x.instrs; end = e1 } in z)
-    (folded_same n x.end (facts_in u) (through x.instrs (facts_at (bare k bs) b)) (end_block n bs b x reads here) agree) in
-    change_next folded_block n k bs b x y f f2 now lt here again same (follows_next n k bs b x f f1 f2 t u within mine here c.follows at_start behind e left) c
+    (folded_same n x.end (facts_in u) (through x.instrs (facts_at (bare k bs) b)) (end_block n bs b x reads here)
+    (end_as n k bs b x f t within mine here c.follows starts u behind)) in
+    record {
+      changed = change_next folded_block n k bs b x y f f2 now lt here again folds
+          (follows_next n k bs b x f t within mine here c.follows starts u behind f1 f2 e left) c;
+      size = behind.size;
+    }
 
 reads_end : (n : ℕ) (value : Bool) (blocks b : ℕ) (e : End) → IsValidEnd n value blocks b e → ReadsRegister n e
 reads_end n value blocks b (ends.Jump t) h = tt

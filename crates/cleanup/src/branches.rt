@@ -39,7 +39,13 @@ pub fn fold_branches_owned(alloc: Global, r: Routine) -> Result<Routine, AllocEr
     } = r;
     let mut blocks = blocks.into_vec();
     let mut flow = Flow::new(alloc, params, regs, blocks.as_slice())?;
-    fold_blocks(alloc, &mut flow, blocks.as_mut_slice())?;
+    let mut table = flow.table(alloc)?;
+    fold_blocks(
+        alloc,
+        &mut flow,
+        table.as_mut_slice(),
+        blocks.as_mut_slice(),
+    )?;
     Ok(Routine {
         pid,
         params,
@@ -51,17 +57,23 @@ pub fn fold_branches_owned(alloc: Global, r: Routine) -> Result<Routine, AllocEr
     })
 }
 
-fn fold_blocks(alloc: Global, flow: &mut Flow, blocks: &mut [Block]) -> Result<(), AllocError>
+fn fold_blocks(
+    alloc: Global,
+    flow: &mut Flow,
+    table: &mut [Option<u32>],
+    blocks: &mut [Block],
+) -> Result<(), AllocError>
     requires named { AreNamed flow.old.regs blocks.old }
     requires ends { EndsRead flow.old.regs blocks.old }
     requires follows { Follows flow.old.regs flow.old.params blocks.old 0 flow.old }
+    requires count { length table.old ≡ flow.old.regs }
     ensures { OnOk result (blocks.new ≡ with_facts folded_block (bare flow.old.params blocks.old) 0 blocks.old) }
 {
     for (b, block) in blocks.iter_mut().enumerate() {
-        let mut table = flow.enter(alloc, b)?;
+        flow.enter(b, table);
         let end = block.end;
-        fold_block(table.as_mut_slice(), block);
-        flow.leave(alloc, b, end, table)?;
+        fold_block(table, block);
+        flow.leave(alloc, end, table)?;
     }
     Ok(())
 }

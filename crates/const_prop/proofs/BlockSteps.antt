@@ -1,17 +1,19 @@
 -- A loop over blocks that are changed by the facts at their starts.
-use Rattle.std.proofs.Common.{◌≡◌, ℕ, zero, suc, ◌+◌, ◌<◌, ◌≤◌, List, [], ◌∷◌, ◌++◌, get_or, set, take, drop, length, ap, subst, sym, ◌∙◌, arith, append_assoc, length-set, slice_get}
-use Rattle.std.specs.Prelude.{Option, Some}
-use Rattle.std.specs.List.{AllByRecursion}
-use Rattle.std.proofs.lemmas.List.{drop_all, drop_more, drop-set-lt, take_all, take_at, take_more_set, append-nil}
+use Rattle.std.proofs.Common.{◌≡◌, ℕ, zero, suc, ◌+◌, ◌<◌, ◌≤◌, List, [], ◌∷◌, ◌++◌, get_or, set, take, drop, length, refl, ap, subst, sym, ◌∙◌, arith, append_assoc, length-set, slice_get}
+use Rattle.std.specs.Prelude.{Bool, true, false, not, ◌&&◌, ◌||◌, Option, Some, None}
+use Rattle.std.specs.List.{AllByRecursion, list_any}
+use Rattle.il_core.specs.Operands.{end_reads}
+use Rattle.std.proofs.lemmas.List.{drop_all, drop_more, drop-set-lt, take_all, take_more_set, append-nil}
 use Rattle.il_core.specs.declared.instr.Block.{Block}
 use Rattle.il_core.specs.declared.instr.Instr.{Instr}
-use Rattle.il_laws.specs.Facts.{Facts, facts_at, through}
+use Rattle.il_laws.specs.Facts.{Facts, any_writes, facts_at, through}
 use Rattle.il_laws.specs.Propagate.{propagated_block, with_facts}
 use Rattle.const_prop.specs.Tables.{NamesRegisters, AreNamed, facts_in, Has}
-use Rattle.const_prop.specs.Flow.{Entered, Left, Follows, bare, start_of}
+use Rattle.const_prop.specs.Carried.{StandsIn, is_exposed, needs, picked, placed}
+use Rattle.const_prop.specs.Flow.{Entered, Left, Follows, Starts, bare}
 use Rattle.const_prop.specs.declared.flow.Flow.{Flow}
 use Rattle.list_laws.proofs.Elements.{drop_read, all_drop}
-use Rattle.const_prop.proofs.Through.{Agree, through_same, all_same}
+use Rattle.const_prop.proofs.Exposed.{AgreeWhere, all_by, or_left, or_right, through_by}
 use Rattle.const_prop.proofs.Following.{start_as, follow_more}
 
 -- the first b blocks are changed by their facts, and what is left is as it was
@@ -40,22 +42,63 @@ get_of_drop [] (suc b) x ys e = absurd cc
 get_of_drop (y ∷ xs) zero x ys e = let same : y ≡ x = cc in ap Some same
 get_of_drop (y ∷ xs) (suc b) x ys e = get_of_drop xs b x ys e
 
-module _ (n k : ℕ) (bs : List Block) (b : ℕ) (x : Block) (f f1 f2 : Flow) (t u : List (Option ℕ)) (within : b < length bs) (named : AllByRecursion (NamesRegisters n) x.instrs) (here : drop b bs ≡ x ∷ drop (b + 1) bs) (follows : Follows n k bs b f) (starts : Has n t (start_of f b)) where
-  pub starts_as : Agree n (facts_in t) (facts_at (bare k bs) b)
-  starts_as = record { at = λ y lt. starts.at y lt ∙ start_as n k bs b f follows within y lt }
+any_at : {X : Type 0} (p : X → Bool) (xs : List X) (b : ℕ) (x : X) (ys : List X) → drop b xs ≡ x ∷ ys → p x ≡ true → list_any p xs ≡ true
+any_at p [] zero x ys e h = absurd cc
+any_at p [] (suc b) x ys e h = absurd cc
+any_at p (y ∷ xs) zero x ys e h = let same : y ≡ x = cc in or_left (p y) (list_any p xs) (ap p same ∙ h)
+any_at p (y ∷ xs) (suc b) x ys e h = or_right (p y) (list_any p xs) (any_at p xs b x ys e h)
+
+picked_at : (cs : List ℕ) (u : List (Option ℕ)) (i : ℕ) → i < length cs → get_or (picked cs u) i None ≡ get_or u (get_or cs i 0) None
+picked_at [] u i lt = absurd (omega arith)
+picked_at (c ∷ cs) u zero lt = refl
+picked_at (c ∷ cs) u (suc i) lt = picked_at cs u i (omega arith)
+
+picked_size : (cs : List ℕ) (u : List (Option ℕ)) → length (picked cs u) ≡ length cs
+picked_size [] u = refl
+picked_size (c ∷ cs) u = ap suc (picked_size cs u)
+
+module _ (n k : ℕ) (bs : List Block) (b : ℕ) (x : Block) (f : Flow) (t : List (Option ℕ)) (within : b < length bs) (named : AllByRecursion (NamesRegisters n) x.instrs) (here : drop b bs ≡ x ∷ drop (b + 1) bs) (follows : Follows n k bs b f) (starts : Starts f b t) where
+  abbrev cs : List ℕ
+  cs = f.carried.items
+
+  abbrev facts : Facts
+  facts = facts_at (bare k bs) b
+
+  -- the table has the facts of what the block needs
+  needed_as : (y : ℕ) → y < n → needs x y ≡ true → facts_in t y ≡ facts y
+  needed_as y lt e =
+      let s : StandsIn cs y = follows.carries.all y lt (any_at (λ (z : Block). needs z y) bs b x (drop (b + 1) bs) here e) in
+      ap (facts_in t) (sym s.is) ∙ start_as n k bs b f follows t within starts s.place s.within ∙ ap facts s.is
+
+  pub starts_as : AgreeWhere n (is_exposed x.instrs) (facts_in t) facts
+  starts_as = record { at = λ y lt e. needed_as y lt (or_left (is_exposed x.instrs y) (not (any_writes x.instrs y) && end_reads x.end y) e) }
 
   -- the block is propagated by the facts at its start
-  pub propagated_as : propagated_block (facts_in t) x ≡ propagated_block (facts_at (bare k bs) b) x
-  propagated_as = ap (λ (is : List Instr). record { instrs = is; end = x.end }) (all_same n x.instrs (facts_in t) (facts_at (bare k bs) b) named starts_as)
+  pub propagated_as : propagated_block (facts_in t) x ≡ propagated_block facts x
+  propagated_as = ap (λ (is : List Instr). record { instrs = is; end = x.end }) (all_by n x.instrs (facts_in t) facts named starts_as)
 
-  pub through_as : Has n u (through x.instrs (facts_in t)) → Has n u (through x.instrs (facts_at (bare k bs) b))
-  through_as h =
-      record { size = h.size; at = λ y lt. h.at y lt ∙ (through_same n x.instrs (facts_in t) (facts_at (bare k bs) b) named starts_as).at y lt }
+  module _ (u : List (Option ℕ)) (h : Has n u (through x.instrs (facts_in t))) where
+    -- behind the block, the table has the facts of the register that its end reads
+    pub end_as : (y : ℕ) → y < n → end_reads x.end y ≡ true → facts_in u y ≡ through x.instrs facts y
+    end_as y lt e =
+        h.at y lt
+        ∙ through_by n x.instrs (facts_in t) facts named starts_as y
+        (λ quiet. needed_as y lt (or_right (is_exposed x.instrs y) (not (any_writes x.instrs y) && end_reads x.end y) (ap (λ (w : Bool). not w && end_reads x.end y) quiet ∙ e)))
 
-  pub follows_next : Has n u (through x.instrs (facts_in t)) → Entered f f1 b → Left b x.end u f1 f2 → Follows n k bs (b + 1) f2
-  follows_next h e l =
-      subst (λ (c : ℕ). Follows n k bs c f2) (omega arith)
-      (follow_more n k bs b f follows x f1 f2 u (get_of_drop bs b x (drop (b + 1) bs) here) e (through_as h) l)
+    -- and of those that are carried
+    carried_as : Has (length cs) (picked cs u) (placed cs (through x.instrs facts))
+    carried_as =
+        record {
+          size = picked_size cs u;
+          at = λ i lt. picked_at cs u i lt ∙ h.at (get_or cs i 0) (follows.carries.inside i lt)
+              ∙ through_by n x.instrs (facts_in t) facts named starts_as (get_or cs i 0) (λ quiet. start_as n k bs b f follows t within starts i lt);
+        }
+
+    pub follows_next : (f1 f2 : Flow) → Entered f f1 b → Left x.end (picked f1.carried.items u) f1 f2 → Follows n k bs (b + 1) f2
+    follows_next f1 f2 e l =
+        subst (λ (c : ℕ). Follows n k bs c f2) (omega arith)
+        (follow_more n k bs b f follows x f1 f2 (picked cs u) (get_of_drop bs b x (drop (b + 1) bs) here) e carried_as
+        (subst (λ (ds : List ℕ). Left x.end (picked ds u) f1 f2) e.same.carried l))
 
 pub change_next : (change : Facts → Block → Block) (n k : ℕ) (bs : List Block) (b : ℕ) (x y : Block) (f f2 : Flow) (now : List Block) → b < length now
     → drop b bs ≡ x ∷ drop (b + 1) bs → x ≡ get_or now b x → y ≡ change (facts_at (bare k bs) b) x → Follows n k bs (b + 1) f2 → Changed change n k bs b f now
@@ -91,20 +134,27 @@ block_named n m bs now b d named size lt rest read same =
     let again : x ≡ get_or now b x = ap (λ (y : Block). get_or now b y) read in
     subst (λ (c : ℕ). AllByRecursion (NamesRegisters c) x.instrs) (sym same) (named_block n bs b x named (read_rest bs now b x size lt rest again))
 
-pub propagate_next : (n k : ℕ) (bs : List Block) (b : ℕ) (d y : Block) (f f1 f2 : Flow) (t u : List (Option ℕ)) (now : List Block) → AreNamed n bs
-    → b < length now → d ≡ get_or now b d → Changed propagated_block n k bs b f now → Has f.regs t (start_of f b) → Entered f f1 b
+-- the loop's state: the first blocks are changed, and the table is as long as there are registers
+pub record Going (change : Facts → Block → Block) (n k : ℕ) (bs : List Block) (b : ℕ) (f : Flow) (t : List (Option ℕ)) (now : List Block) : Type 0 where
+  pub changed : Changed change n k bs b f now
+  pub size : length t ≡ n
+
+pub propagate_next : (n k : ℕ) (bs : List Block) (b : ℕ) (d y : Block) (f f1 f2 : Flow) (s t u : List (Option ℕ)) (now : List Block) → AreNamed n bs
+    → b < length now → d ≡ get_or now b d → Going propagated_block n k bs b f s now → length t ≡ length s → Starts f b t → Entered f f1 b
     → y ≡ propagated_block (facts_in t) (get_or now b d) → Has (length t) u (through (get_or now b d).instrs (facts_in t))
-    → (len : ℕ) (rest : List (Option ℕ)) → length u ≡ len → Left b y.end (take len (u ++ rest)) f1 f2
-    → Changed propagated_block n k bs (b + 1) f2 (set now b y)
-propagate_next n k bs b d y f f1 f2 t u now named lt read c starts e is has len others count l =
+    → Left y.end (picked f1.carried.items u) f1 f2 → Going propagated_block n k bs (b + 1) f2 u (set now b y)
+propagate_next n k bs b d y f f1 f2 s t u now named lt read g same starts e is has l =
+    let c = g.changed in
     let x : Block = get_or now b d in
     let again : x ≡ get_or now b x = ap (λ (z : Block). get_or now b z) read in
     let here : drop b bs ≡ x ∷ drop (b + 1) bs = read_rest bs now b x c.count lt c.rest again in
     let size = c.count in
     let within : b < length bs = omega arith in
     let mine : AllByRecursion (NamesRegisters n) x.instrs = named_block n bs b x named here in
-    let at_start : Has n t (start_of f b) = subst (λ (m : ℕ). Has m t (start_of f b)) c.follows.regs starts in
-    let behind : Has n u (through x.instrs (facts_in t)) = subst (λ (m : ℕ). Has m u (through x.instrs (facts_in t))) at_start.size has in
-    let left : Left b x.end u f1 f2 = subst (λ (w : List (Option ℕ)). Left b x.end w f1 f2) (take_at u others len count) (subst (λ (z : Block). Left b z.end (take len (u ++ others)) f1 f2) is l) in
-    change_next propagated_block n k bs b x y f f2 now lt here again (is ∙ propagated_as n k bs b x f f1 f2 t u within mine here c.follows at_start)
-    (follows_next n k bs b x f f1 f2 t u within mine here c.follows at_start behind e left) c
+    let behind : Has n u (through x.instrs (facts_in t)) = subst (λ (m : ℕ). Has m u (through x.instrs (facts_in t))) (same ∙ g.size) has in
+    let left : Left x.end (picked f1.carried.items u) f1 f2 = subst (λ (z : Block). Left z.end (picked f1.carried.items u) f1 f2) is l in
+    record {
+      changed = change_next propagated_block n k bs b x y f f2 now lt here again (is ∙ propagated_as n k bs b x f t within mine here c.follows starts)
+          (follows_next n k bs b x f t within mine here c.follows starts u behind f1 f2 e left) c;
+      size = behind.size;
+    }

@@ -1,6 +1,9 @@
 pub mod BlockSteps
+pub mod Exposed
 pub mod Following
 pub mod Marked
+pub mod Noting
+pub mod Placing
 pub mod SiteSteps
 pub mod Through
 pub mod Whole

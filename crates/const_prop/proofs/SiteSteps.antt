@@ -1,8 +1,8 @@
 -- A loop over the calls of a routine.
-use Rattle.std.proofs.Common.{◌≡◌, ℕ, suc, ◌+◌, ◌<◌, ◌≤◌, List, [], ◌∷◌, ◌++◌, get_or, drop, take, length, map, refl, ap, subst, sym, ◌∙◌, arith, append_assoc}
+use Rattle.std.proofs.Common.{◌≡◌, ℕ, suc, ◌+◌, ◌<◌, ◌≤◌, List, [], ◌∷◌, ◌++◌, get_or, drop, length, map, refl, ap, subst, sym, ◌∙◌, arith, append_assoc}
 use Rattle.std.specs.Prelude.{Option}
 use Rattle.std.specs.List.{AllByRecursion}
-use Rattle.std.proofs.lemmas.List.{drop_all, append-nil, map-append, take_at}
+use Rattle.std.proofs.lemmas.List.{drop_all, append-nil, map-append}
 use Rattle.il_core.specs.declared.instr.Block.{Block}
 use Rattle.il_core.specs.declared.instr.Instr.{Instr}
 use Rattle.il_core.specs.declared.instr.Instr.TheVariants.{Const, Move, Conv, Bin, Get, Set, GetX, SetX, GetA, SetA, Clear, Turn, Call, GetChar, PutChar}
@@ -11,12 +11,14 @@ use Rattle.hlo_num.specs.declared.word.Word.{Word}
 use Rattle.il_laws.specs.Facts.{Facts, after, through, facts_at}
 use Rattle.il_laws.specs.Known.{KnownSite, site_of, known_in, known_from}
 use Rattle.const_prop.specs.Tables.{NamesRegisters, AreNamed, facts_in, Has}
-use Rattle.const_prop.specs.Flow.{Entered, Left, Follows, bare, start_of}
+use Rattle.const_prop.specs.Carried.{picked}
+use Rattle.const_prop.specs.Flow.{Entered, Left, Follows, Starts, bare}
 use Rattle.const_prop.specs.Sites.{words_of}
 use Rattle.const_prop.specs.declared.flow.Flow.{Flow}
 use Rattle.list_laws.proofs.Elements.{drop_read}
 use Rattle.const_prop.proofs.Through.{Agree, Passing, after_same, named_at, pass_step}
 use Rattle.const_prop.proofs.BlockSteps.{named_block, starts_as, follows_next}
+use Rattle.const_prop.proofs.Exposed.{known_by}
 use Rattle.const_prop.proofs.Following.{bare_facts}
 
 args_same : (n : ℕ) (fs gs : Facts) (args : List ℕ) → AllByRecursion (λ x. x < n) args → Agree n fs gs → map fs args ≡ map gs args
@@ -81,34 +83,39 @@ put_done start is was k t now past p =
 
 -- ---- over blocks
 
--- behind b blocks, what is put down, and what will be, is what is known in all
-pub record PuttingAll (n k : ℕ) (bs : List Block) (b : ℕ) (f : Flow) (now : List (List (Option Word))) : Type 0 where
+-- behind b blocks, what is put down, and what will be, is what is known in all, and the table is as long as there are registers
+pub record PuttingAll (n k : ℕ) (bs : List Block) (was : List (List (Option Word))) (b : ℕ) (f : Flow) (t : List (Option ℕ)) (now : List (List (Option Word))) : Type 0 where
   pub follows : Follows n k bs b f
-  pub whole : words_of now ++ words_in (known_from (bare k bs) b (drop b bs)) ≡ words_in (known_from (bare k bs) 0 bs)
+  pub size : length t ≡ n
+  pub whole : words_of now ++ words_in (known_from (bare k bs) b (drop b bs)) ≡ words_of was ++ words_in (known_from (bare k bs) 0 bs)
 
-pub put_next : (n k : ℕ) (bs : List Block) (b : ℕ) (x : Block) (f f1 f2 : Flow) (t u : List (Option ℕ)) (now new : List (List (Option Word))) → AreNamed n bs
-    → b < length bs → x ≡ get_or bs b x → PuttingAll n k bs b f now → Has f.regs t (start_of f b) → Entered f f1 b
+pub put_next : (n k : ℕ) (bs : List Block) (was : List (List (Option Word))) (b : ℕ) (x : Block) (f f1 f2 : Flow) (s t u : List (Option ℕ)) (now new : List (List (Option Word)))
+    → AreNamed n bs → b < length bs → x ≡ get_or bs b x → PuttingAll n k bs was b f s now → length t ≡ length s → Starts f b t → Entered f f1 b
     → words_of new ≡ words_of now ++ words_in (known_in (facts_in t) x.instrs) → Has (length t) u (through x.instrs (facts_in t))
-    → (len : ℕ) (rest : List (Option ℕ)) → length u ≡ len → Left b x.end (take len (u ++ rest)) f1 f2 → PuttingAll n k bs (b + 1) f2 new
-put_next n k bs b x f f1 f2 t u now new named lt read p starts e is has len rest count l =
+    → Left x.end (picked f1.carried.items u) f1 f2 → PuttingAll n k bs was (b + 1) f2 u new
+put_next n k bs was b x f f1 f2 s t u now new named lt read p same starts e is has left =
     let here : drop b bs ≡ x ∷ drop (b + 1) bs = drop_read bs b x lt read in
     let mine : AllByRecursion (NamesRegisters n) x.instrs = named_block n bs b x named here in
-    let at_start : Has n t (start_of f b) = subst (λ (m : ℕ). Has m t (start_of f b)) p.follows.regs starts in
-    let behind : Has n u (through x.instrs (facts_in t)) = subst (λ (m : ℕ). Has m u (through x.instrs (facts_in t))) at_start.size has in
-    let left : Left b x.end u f1 f2 = subst (λ (w : List (Option ℕ)). Left b x.end w f1 f2) (take_at u rest len count) l in
+    let behind : Has n u (through x.instrs (facts_in t)) = subst (λ (m : ℕ). Has m u (through x.instrs (facts_in t))) (same ∙ p.size) has in
     let next : suc b ≡ b + 1 = omega arith in
-    let agree = starts_as n k bs b x f f1 f2 t u lt mine here p.follows at_start in
+    let agree = starts_as n k bs b x f t lt mine here p.follows starts in
     let mine_known : List KnownSite = known_in (facts_at (bare k bs) b) x.instrs in
     let others : List KnownSite = known_from (bare k bs) (b + 1) (drop (b + 1) bs) in
     record {
-      follows = follows_next n k bs b x f f1 f2 t u lt mine here p.follows at_start behind e left;
+      follows = follows_next n k bs b x f t lt mine here p.follows starts u behind f1 f2 e left;
+      size = behind.size;
       whole = ap (λ (ws : List (List (Option ℕ))). ws ++ words_in others) is
-          ∙ ap (λ (ss : List KnownSite). (words_of now ++ words_in ss) ++ words_in others) (known_same n x.instrs (facts_in t) (facts_at (bare k bs) b) mine agree)
+          ∙ ap (λ (ss : List KnownSite). (words_of now ++ words_in ss) ++ words_in others) (known_by n x.instrs (facts_in t) (facts_at (bare k bs) b) mine agree)
           ∙ append_assoc (words_of now) (words_in mine_known) (words_in others)
           ∙ ap (λ (ws : List (List (Option ℕ))). words_of now ++ ws) (sym (map-append (λ (s : KnownSite). s.known) mine_known others))
           ∙ ap (λ (c : ℕ). words_of now ++ words_in (mine_known ++ known_from (bare k bs) c (drop (b + 1) bs))) (sym next)
           ∙ ap (λ (ys : List Block). words_of now ++ words_in (known_from (bare k bs) b ys)) (sym here) ∙ p.whole;
     }
+
+pub put_all : (n k : ℕ) (bs : List Block) (was : List (List (Option Word))) (b : ℕ) (f : Flow) (t : List (Option ℕ)) (now : List (List (Option Word))) → length bs ≤ b
+    → PuttingAll n k bs was b f t now → words_of now ≡ words_of was ++ words_in (known_from (bare k bs) 0 bs)
+put_all n k bs was b f t now past p =
+    sym (append-nil (words_of now)) ∙ ap (λ (ys : List Block). words_of now ++ words_in (known_from (bare k bs) b ys)) (sym (drop_all b bs past)) ∙ p.whole
 
 known_bare : (r : RoutineParts) (b : ℕ) (xs : List Block) → known_from (bare r.params r.blocks) b xs ≡ known_from r b xs
 known_bare r b [] = refl
@@ -116,8 +123,9 @@ known_bare r b (x ∷ xs) =
     ap (λ (fs : Facts). known_in fs x.instrs ++ known_from (bare r.params r.blocks) (suc b) xs) (bare_facts r b)
     ∙ ap (λ (ss : List KnownSite). known_in (facts_at r b) x.instrs ++ ss) (known_bare r (suc b) xs)
 
-pub put_all : (n : ℕ) (r : RoutineParts) (b : ℕ) (f : Flow) (now : List (List (Option Word))) → length r.blocks ≤ b → PuttingAll n r.params r.blocks b f now
-    → words_of now ≡ words_in (known_from r 0 r.blocks)
-put_all n r b f now past p =
-    sym (append-nil (words_of now)) ∙ ap (λ (ys : List Block). words_of now ++ words_in (known_from (bare r.params r.blocks) b ys)) (sym (drop_all b r.blocks past))
-    ∙ p.whole ∙ ap words_in (known_bare r 0 r.blocks)
+-- what is known at the sites of a routine's blocks is what is known at its sites
+pub sites_are : (r : RoutineParts) (k : ℕ) (bs : List Block) → k ≡ r.params → bs ≡ r.blocks → words_in (known_from (bare k bs) 0 bs) ≡ words_in (known_from r 0 r.blocks)
+sites_are r k bs params blocks =
+    ap (λ (m : ℕ). words_in (known_from (bare m bs) 0 bs)) params
+    ∙ ap (λ (cs : List Block). words_in (known_from (bare r.params cs) 0 cs)) blocks
+    ∙ ap words_in (known_bare r 0 r.blocks)

@@ -1,11 +1,12 @@
 -- Writes to a table of facts.
 use Rattle.std.proofs.Common.{◌≡◌, ℕ, ◌+◌, ◌<◌, List, get_or, set, length, ap, sym, ◌∙◌, arith, inl, inr, eq-eqb, ne_eqb, get_or-set_same, get_or-set_other}
-use Rattle.std.specs.Prelude.{true, false, Option, Some, None, nat_eq, if◌then◌else◌}
+use Rattle.std.specs.Prelude.{Bool, true, false, Option, Some, None, nat_eq, if◌then◌else◌}
 use Rattle.std.proofs.lemmas.Bool.{cases_lt, cases_eq}
 use Rattle.std.proofs.lemmas.Bool.Decides.{nat_tests}
 use Rattle.il_core.specs.Meaning.{is_among}
 use Rattle.il_core.specs.declared.instr.Instr.TheVariants.{Clear}
 use Rattle.il_laws.specs.Facts.{after}
+use Rattle.const_prop.specs.Carried.{Filled}
 use Rattle.const_prop.specs.Tables.{facts_in, Has, Cleared}
 
 -- one register written
@@ -30,3 +31,14 @@ cleared_is t u r c a m h =
         ]
       ];
     }
+
+-- a row of numbers filled
+pub filled_is : (b : ℕ) (old new : List ℕ) (first count : ℕ) → Filled b old new first count → (x : ℕ) → get_or new x 0 ≡ (if is_among first count x then b else get_or old x 0)
+filled_is b old new first count h x =
+    elim (cases_lt x first) [
+      | inl less ↦ (let k : is_among first count x ≡ false = grind (arith, nat_tests) in h.before x less ∙ sym (ap (λ (t : Bool). if t then b else get_or old x 0) k))
+      | inr ge ↦ elim (cases_lt x (first + count)) [
+        | inl in_range ↦ (let k : is_among first count x ≡ true = grind (arith, nat_tests) in h.inside x ge in_range ∙ sym (ap (λ (t : Bool). if t then b else get_or old x 0) k))
+        | inr past ↦ (let k : is_among first count x ≡ false = grind (arith, nat_tests) in h.after x past ∙ sym (ap (λ (t : Bool). if t then b else get_or old x 0) k))
+      ]
+    ]

@@ -1,9 +1,10 @@
 -- Facts on their way from block to block.
-use Rattle.std.specs.Prelude.{◌≡◌, ◌≢◌, ℕ, ◌<◌, ◌≤◌, ◌||◌, Bool, false, List, [], Option, Some, None, length, slice_index_or, ⊤, nat_eq, nat_lt, if◌then◌else◌, option_map}
+use Rattle.std.specs.Prelude.{◌≡◌, ◌≢◌, ℕ, ◌<◌, ◌≤◌, ◌||◌, Bool, true, false, List, [], Option, Some, None, length, slice_index_or, ⊤, nat_lt, if◌then◌else◌, option_map}
 use Rattle.il_core.specs.declared.instr.Block.{Block}
 use Rattle.il_core.specs.declared.instr.End.{End}
 use Rattle.il_core.specs.Routine.{RoutineParts}
-use Rattle.il_laws.specs.Facts.{Facts, looped, written, jumps_to, meet, arriving, known, before}
+use Rattle.il_laws.specs.Facts.{Facts, looped, written, jumps_to, meet, arriving, before}
+use Rattle.const_prop.specs.Carried.{Carries, Knows, RestoresIfSome, placed_if_some}
 use Rattle.const_prop.specs.Tables.{facts_in, Has, AreMarks}
 use Rattle.const_prop.specs.declared.flow.Flow.{Flow}
 
@@ -26,13 +27,6 @@ quiet params written x = if nat_lt x params || slice_index_or written x false th
 abbrev pub zeros : ℕ → Facts
 zeros params x = if nat_lt x params then None else Some 0
 
--- the facts at the start of a block, by what is kept
-abbrev pub start_of : Flow → ℕ → Facts
-start_of f b x =
-    if slice_index_or f.looped.items b false then quiet f.params f.written.items x
-    else if nat_eq b 0 then zeros f.params x
-    else known (facts_of (slice_index_or f.arriving.items b None)) x
-
 -- what arrives at a block, where a block with this end and these facts has jumped
 abbrev pub arrived : End → Facts → ℕ → Option Facts → Option Facts
 arrived e fs t o = if jumps_to e t then Some (meet fs o) else o
@@ -46,26 +40,36 @@ abbrev pub IsSizedIfSome : ℕ → Option (List (Option ℕ)) → Type 0
 IsSizedIfSome n None = ⊤
 IsSizedIfSome n (Some t) = length t ≡ n
 
--- what is kept has the sizes of the routine
+-- what is kept has the sizes of the routine, and carried registers are among its registers
 pub record IsSized (f : Flow) : Type 0 where
   pub looped : length f.looped.items ≡ length f.arriving.items
   pub written : length f.written.items ≡ f.regs
-  pub tables : (t : ℕ) → IsSizedIfSome f.regs (slice_index_or f.arriving.items t None)
+  pub carried : (i : ℕ) → i < length f.carried.items → slice_index_or f.carried.items i 0 < f.regs
+  pub tables : (t : ℕ) → IsSizedIfSome (length f.carried.items) (slice_index_or f.arriving.items t None)
 
 -- What is kept of a routine with so many registers before block b: what arrives at block b and at those behind it.
 pub record Follows (n k : ℕ) (blocks : List Block) (b : ℕ) (f : Flow) : Type 0 where
   pub params : f.params ≡ k
   pub regs : f.regs ≡ n
+  pub carries : Carries n f.carried.items blocks
   pub looped : AreMarks (length blocks) f.looped.items (looped blocks)
   pub written : AreMarks n f.written.items (written blocks)
   pub count : length f.arriving.items ≡ length blocks
   pub sized : IsSized f
-  pub arriving : (t : ℕ) → b ≤ t → t < length blocks → HasIfSome n (slice_index_or f.arriving.items t None) (arriving t (before (bare k blocks) b))
+  pub arriving : (t : ℕ) → b ≤ t → t < length blocks
+      → HasIfSome (length f.carried.items) (slice_index_or f.arriving.items t None) (placed_if_some f.carried.items (arriving t (before (bare k blocks) b)))
+
+-- a table has the facts of carried registers at the start of a block, by what is kept
+pub record Starts (f : Flow) (b : ℕ) (t : List (Option ℕ)) : Type 0 where
+  pub looped : slice_index_or f.looped.items b false ≡ true → Knows f.carried.items t (quiet f.params f.written.items)
+  pub first : slice_index_or f.looped.items b false ≡ false → b ≡ 0 → Knows f.carried.items t (zeros f.params)
+  pub others : slice_index_or f.looped.items b false ≡ false → b ≢ 0 → RestoresIfSome f.carried.items (slice_index_or f.arriving.items b None) t
 
 -- what stays as the facts go on
 pub record SameRoutine (old new : Flow) : Type 0 where
   pub params : new.params ≡ old.params
   pub regs : new.regs ≡ old.regs
+  pub carried : new.carried.items ≡ old.carried.items
   pub looped : new.looped.items ≡ old.looped.items
   pub written : new.written.items ≡ old.written.items
   pub count : length new.arriving.items ≡ length old.arriving.items
@@ -76,16 +80,16 @@ pub record Entered (old new : Flow) (b : ℕ) : Type 0 where
   pub here : slice_index_or new.arriving.items b None ≡ None
   pub others : (t : ℕ) → t ≢ b → slice_index_or new.arriving.items t None ≡ slice_index_or old.arriving.items t None
 
--- a table has been sent to block t alone
+-- facts, by their places, have been sent to block t alone
 pub record Sent (t : ℕ) (table : List (Option ℕ)) (old new : Flow) : Type 0 where
   pub same : SameRoutine old new
   pub here : t < length old.arriving.items
-      → HasIfSome old.regs (slice_index_or new.arriving.items t None) (Some (meet (facts_in table) (facts_of (slice_index_or old.arriving.items t None))))
+      → HasIfSome (length old.carried.items) (slice_index_or new.arriving.items t None) (Some (meet (facts_in table) (facts_of (slice_index_or old.arriving.items t None))))
   pub others : (u : ℕ) → u ≢ t → slice_index_or new.arriving.items u None ≡ slice_index_or old.arriving.items u None
 
--- block b has jumped, with this end and this table
-pub record Left (b : ℕ) (e : End) (table : List (Option ℕ)) (old new : Flow) : Type 0 where
+-- a block has jumped, with this end and these facts by their places
+pub record Left (e : End) (table : List (Option ℕ)) (old new : Flow) : Type 0 where
   pub same : SameRoutine old new
   pub sized : IsSized new
-  pub arriving : (t : ℕ) → b < t → t < length old.arriving.items
-      → HasIfSome old.regs (slice_index_or new.arriving.items t None) (arrived e (facts_in table) t (facts_of (slice_index_or old.arriving.items t None)))
+  pub arriving : (t : ℕ) → t < length old.arriving.items
+      → HasIfSome (length old.carried.items) (slice_index_or new.arriving.items t None) (arrived e (facts_in table) t (facts_of (slice_index_or old.arriving.items t None)))

@@ -1,3 +1,4 @@
+pub mod Carried
 pub mod Flow
 pub mod Sites
 pub mod Tables

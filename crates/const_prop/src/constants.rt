@@ -41,7 +41,13 @@ pub fn propagate_owned(alloc: Global, r: Routine) -> Result<Routine, AllocError>
     } = r;
     let mut blocks = blocks.into_vec();
     let mut flow = Flow::new(alloc, params, regs, blocks.as_slice())?;
-    propagate_blocks(alloc, &mut flow, blocks.as_mut_slice())?;
+    let mut table = flow.table(alloc)?;
+    propagate_blocks(
+        alloc,
+        &mut flow,
+        table.as_mut_slice(),
+        blocks.as_mut_slice(),
+    )?;
     Ok(Routine {
         pid,
         params,
@@ -53,15 +59,21 @@ pub fn propagate_owned(alloc: Global, r: Routine) -> Result<Routine, AllocError>
     })
 }
 
-fn propagate_blocks(alloc: Global, flow: &mut Flow, blocks: &mut [Block]) -> Result<(), AllocError>
+fn propagate_blocks(
+    alloc: Global,
+    flow: &mut Flow,
+    table: &mut [Option<u32>],
+    blocks: &mut [Block],
+) -> Result<(), AllocError>
     requires named { AreNamed flow.old.regs blocks.old }
     requires follows { Follows flow.old.regs flow.old.params blocks.old 0 flow.old }
+    requires count { length table.old ≡ flow.old.regs }
     ensures { OnOk result (blocks.new ≡ with_facts propagated_block (bare flow.old.params blocks.old) 0 blocks.old) }
 {
     for (b, block) in blocks.iter_mut().enumerate() {
-        let mut table = flow.enter(alloc, b)?;
-        propagate_block(alloc, table.as_mut_slice(), block);
-        flow.leave(alloc, b, block.end, table)?;
+        flow.enter(b, table);
+        propagate_block(alloc, table, block);
+        flow.leave(alloc, block.end, table)?;
     }
     Ok(())
 }

@@ -1,27 +1,31 @@
 //! Facts from block to block.
-ghost use Rattle.std.specs.Prelude.{◌≡◌, ◌<◌, ◌≤◌, length, None, Some, OnOk, IfOk, slice_index_or, is_some};
-ghost use Rattle.il_laws.specs.Facts.{both_know, known, looped, written};
-ghost use Rattle.const_prop.specs.Tables.{AreNamed, Has, facts_in, Met, AreMissing};
-ghost use Rattle.const_prop.specs.Flow.{Follows, Entered, Left, Sent, IsSized, IsSizedIfSome, start_of, facts_of, quiet, zeros};
+ghost use Rattle.std.specs.Prelude.{◌≡◌, ℕ, ◌<◌, length, None, Some, OnOk, IfOk, slice_index_or};
+ghost use Rattle.il_laws.specs.Facts.{both_know};
+ghost use Rattle.const_prop.specs.Tables.{AreNamed, Met, AreMissing};
+ghost use Rattle.const_prop.specs.Carried.{Knows, Restores, RestoresIfSome, picked};
+ghost use Rattle.const_prop.specs.Flow.{Follows, Entered, Left, Sent, Starts, IsSized, IsSizedIfSome, quiet, zeros};
 
+use crate::carried::carried;
 use crate::marks::{loop_heads, written};
 use hlo_num::Seq;
 use il_core::{Block, End};
 use std::alloc::{AllocError, Global};
 
-/// Facts on their way through a routine, from block to block. A table of facts, of 8 bytes a register, is kept for each
-/// block to which an earlier one jumps, until that block is reached. A pass takes time in proportion to the instructions
-/// with the registers that they name, and to the registers for each branch, each edge but the first into a block, each
-/// block to which a `loop` goes, and each one to which nothing jumps.
+/// Facts on their way through a routine, from block to block. A list of facts, of 8 bytes a carried register, is kept
+/// for each block to which an earlier one jumps, until that block is reached. A register is carried where some block
+/// reads it before it writes it; no fact of another one matters at a block's start. A pass takes time in proportion to
+/// the instructions with the registers that they name, and to the carried registers for each block and each edge.
 #[derive(Drop)]
 pub struct Flow {
     pub params: u32,
     pub regs: usize,
+    /// The registers whose facts go from block to block.
+    pub carried: Vec<u32>,
     /// The blocks to which some `loop` goes.
     pub looped: Vec<bool>,
     /// The registers that some instruction writes.
     pub written: Vec<bool>,
-    /// By block, what all that have jumped there know.
+    /// By block, what all that have jumped there know, by places of `carried`.
     pub arriving: Vec<Option<Seq<Option<u32>>>>,
 }
 
@@ -32,75 +36,87 @@ impl Flow {
         requires { AreNamed regs blocks.now }
         ensures { IfOk result (λ f. Follows regs params blocks.now 0 f) }
     {
-        let regs = regs as usize;
+        let carried = carried(alloc, regs, blocks)?;
         let looped = loop_heads(alloc, blocks)?;
-        let written = written(alloc, regs, blocks)?;
+        let written = written(alloc, regs as usize, blocks)?;
         let arriving = nowhere(alloc, blocks.len())?;
         Ok(Flow {
             params,
-            regs,
+            regs: regs as usize,
+            carried,
             looped,
             written,
             arriving,
         })
     }
 
-    /// The facts at the start of a block. What arrived there is taken. It takes constant time, or time in proportion to
-    /// the registers at the first block, at one to which a `loop` goes and at one to which nothing jumps. The only error
-    /// is want of memory.
-    pub fn enter(&mut self, alloc: Global, b: usize) -> Result<Vec<Option<u32>>, AllocError>
+    /// A table by register, for the facts inside of blocks. The only error is want of memory.
+    pub fn table(&self, alloc: Global) -> Result<Vec<Option<u32>>, AllocError>
+        ensures { IfOk result (λ t. length t.items ≡ self.now.regs) }
+    {
+        vec![in alloc; None; self.regs]
+    }
+
+    /// Puts the facts at the start of a block into a table, as far as the block, or one that it can come to, reads them.
+    /// What arrived there is taken. It takes time in proportion to the carried registers.
+    pub fn enter(&mut self, b: usize, table: &mut [Option<u32>])
         requires within { b < length self.old.arriving.items }
         requires sized { IsSized self.old }
-        ensures facts { IfOk result (λ t. Has self.old.regs t.items (start_of self.old b)) }
+        requires count { length table.old ≡ self.old.regs }
+        ensures size { length table.new ≡ length table.old }
+        ensures starts { Starts self.old b table.new }
         ensures flow { Entered self.old self.new b }
     {
-        let mut table = self.take(alloc, b)?;
+        let kept = self.arriving[b].take();
+        let carried = self.carried.as_slice();
         if self.looped[b] {
-            put_quiet(table.as_mut_slice(), self.params, self.written.as_slice());
+            put_quiet(table, carried, self.params, self.written.as_slice());
         } else if b == 0 {
-            put_zeros(table.as_mut_slice(), self.params);
-        }
-        Ok(table)
-    }
-
-    /// What has arrived at a block, or a table of unknown words.
-    fn take(&mut self, alloc: Global, b: usize) -> Result<Vec<Option<u32>>, AllocError>
-        requires within { b < length self.old.arriving.items }
-        requires sized { IsSizedIfSome self.old.regs (slice_index_or self.old.arriving.items b None) }
-        ensures facts { IfOk result (λ t. Has self.old.regs t.items (known (facts_of (slice_index_or self.old.arriving.items b None)))) }
-        ensures flow { Entered self.old self.new b }
-    {
-        match self.arriving[b].take() {
-            Some(table) => Ok(table.into_vec()),
-            None => vec![in alloc; None; self.regs],
+            put_zeros(table, carried, self.params);
+        } else {
+            put_kept(table, carried, kept);
         }
     }
 
-    /// Takes the facts at a block's end to the blocks to which it can jump. A jump to a block that nothing has jumped to
-    /// takes constant time, any other edge time in proportion to the registers. The only error is want of memory.
+    /// Takes the facts at a block's end to the blocks to which it can jump, in time in proportion to the carried
+    /// registers for each. The only error is want of memory.
     pub fn leave(
         &mut self,
         alloc: Global,
-        b: usize,
         end: End,
-        table: Vec<Option<u32>>,
+        table: &[Option<u32>],
     ) -> Result<(), AllocError>
-        requires count { length table.items ≡ self.old.regs }
         requires sized { IsSized self.old }
-        ensures { OnOk result (Left b end table.items self.old self.new) }
+        requires count { length table.now ≡ self.old.regs }
+        ensures { OnOk result (Left end (picked self.old.carried.items table.now) self.old self.new) }
+    {
+        match end {
+            End::Jump(_) | End::Branch(..) => {
+                let facts = picked(alloc, self.carried.as_slice(), table)?;
+                self.spread(alloc, end, facts)
+            }
+            End::Loop(_) | End::Return(_) | End::Exit(_) => Ok(()),
+        }
+    }
+
+    /// Takes facts to the blocks to which an end can jump.
+    fn spread(&mut self, alloc: Global, end: End, facts: Vec<Option<u32>>) -> Result<(), AllocError>
+        requires count { length facts.items ≡ length self.old.carried.items }
+        requires sized { IsSized self.old }
+        ensures { OnOk result (Left end facts.items self.old self.new) }
     {
         match end {
             End::Jump(t) => {
-                self.give(t, table);
+                self.give(t, facts);
                 Ok(())
             }
             End::Branch(_, t, u) => {
                 if t == u {
-                    self.give(t, table);
+                    self.give(t, facts);
                     return Ok(());
                 }
-                self.send(alloc, t, table.as_slice())?;
-                self.give(u, table);
+                self.send(alloc, t, facts.as_slice())?;
+                self.give(u, facts);
                 Ok(())
             }
             End::Loop(_) | End::Return(_) | End::Exit(_) => Ok(()),
@@ -109,8 +125,8 @@ impl Flow {
 
     /// Takes a copy of a table to a block.
     fn send(&mut self, alloc: Global, t: u32, table: &[Option<u32>]) -> Result<(), AllocError>
-        requires count { length table.now ≡ self.old.regs }
-        requires sized { IsSizedIfSome self.old.regs (slice_index_or self.old.arriving.items t None) }
+        requires count { length table.now ≡ length self.old.carried.items }
+        requires sized { IsSizedIfSome (length self.old.carried.items) (slice_index_or self.old.arriving.items t None) }
         ensures { OnOk result (Sent t table.now self.old self.new) }
     {
         let t = t as usize;
@@ -126,8 +142,8 @@ impl Flow {
 
     /// Takes a table to a block.
     fn give(&mut self, t: u32, table: Vec<Option<u32>>)
-        requires count { length table.items ≡ self.old.regs }
-        requires sized { IsSizedIfSome self.old.regs (slice_index_or self.old.arriving.items t None) }
+        requires count { length table.items ≡ length self.old.carried.items }
+        requires sized { IsSizedIfSome (length self.old.carried.items) (slice_index_or self.old.arriving.items t None) }
         ensures { Sent t table.items self.old self.new }
     {
         let t = t as usize;
@@ -182,12 +198,15 @@ fn meet(kept: &mut [Option<u32>], table: &[Option<u32>])
     }
 }
 
-/// Nothing is known of the parameters and of what is written, and the others are known as 0.
-fn put_quiet(table: &mut [Option<u32>], params: u32, written: &[bool])
-    requires { length written.now ≡ length table.old }
-    ensures { Has (length table.old) table.new (quiet params written.now) }
+/// Of carried registers, nothing is known of parameters and of what is written, and the others are known as 0.
+fn put_quiet(table: &mut [Option<u32>], carried: &[u32], params: u32, written: &[bool])
+    requires inside { (i : ℕ) → i < length carried.now → slice_index_or carried.now i 0 < length table.old }
+    requires written { length written.now ≡ length table.old }
+    ensures size { length table.new ≡ length table.old }
+    ensures facts { Knows carried.now table.new (quiet params written.now) }
 {
-    for x in 0..table.len() {
+    for x in carried {
+        let x = *x as usize;
         table[x] = if x < params as usize || written[x] {
             None
         } else {
@@ -196,11 +215,65 @@ fn put_quiet(table: &mut [Option<u32>], params: u32, written: &[bool])
     }
 }
 
-/// Nothing is known of the parameters, and the others are known as 0.
-fn put_zeros(table: &mut [Option<u32>], params: u32)
-    ensures { Has (length table.old) table.new (zeros params) }
+/// Of carried registers, nothing is known of parameters, and the others are known as 0.
+fn put_zeros(table: &mut [Option<u32>], carried: &[u32], params: u32)
+    requires inside { (i : ℕ) → i < length carried.now → slice_index_or carried.now i 0 < length table.old }
+    ensures size { length table.new ≡ length table.old }
+    ensures facts { Knows carried.now table.new (zeros params) }
 {
-    for x in 0..table.len() {
-        table[x] = if x < params as usize { None } else { Some(0) };
+    for x in carried {
+        table[*x as usize] = if *x < params { None } else { Some(0) };
     }
+}
+
+/// Of carried registers, what is kept of them by their places is known, or nothing.
+fn put_kept(table: &mut [Option<u32>], carried: &[u32], kept: Option<Seq<Option<u32>>>)
+    requires inside { (i : ℕ) → i < length carried.now → slice_index_or carried.now i 0 < length table.old }
+    requires sized { IsSizedIfSome (length carried.now) kept }
+    ensures size { length table.new ≡ length table.old }
+    ensures facts { RestoresIfSome carried.now kept table.new }
+{
+    match kept {
+        Some(facts) => restore(table, carried, facts.as_slice()),
+        None => forget(table, carried),
+    }
+}
+
+/// Of carried registers, what is kept of them by their places is known.
+fn restore(table: &mut [Option<u32>], carried: &[u32], facts: &[Option<u32>])
+    requires inside { (i : ℕ) → i < length carried.now → slice_index_or carried.now i 0 < length table.old }
+    requires sized { length facts.now ≡ length carried.now }
+    ensures size { length table.new ≡ length table.old }
+    ensures facts { Restores carried.now facts.now table.new }
+{
+    for i in 0..carried.len() {
+        table[carried[i] as usize] = facts[i];
+    }
+}
+
+/// Nothing is known of carried registers.
+fn forget(table: &mut [Option<u32>], carried: &[u32])
+    requires inside { (i : ℕ) → i < length carried.now → slice_index_or carried.now i 0 < length table.old }
+    ensures size { length table.new ≡ length table.old }
+    ensures facts { Knows carried.now table.new (λ x. None) }
+{
+    for x in carried {
+        table[*x as usize] = None;
+    }
+}
+
+/// What a table has of carried registers, by their places.
+fn picked(
+    alloc: Global,
+    carried: &[u32],
+    table: &[Option<u32>],
+) -> Result<Vec<Option<u32>>, AllocError>
+    requires inside { (i : ℕ) → i < length carried.now → slice_index_or carried.now i 0 < length table.now }
+    ensures { IfOk result (λ v. v.items ≡ picked carried.now table.now) }
+{
+    let mut facts = Vec::with_capacity(alloc, carried.len())?;
+    for x in carried {
+        facts.push(table[*x as usize])?;
+    }
+    Ok(facts)
 }

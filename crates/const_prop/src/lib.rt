@@ -1,6 +1,7 @@
 //! Constants: what is known of a routine's registers, and constants in place of known results.
 #![tactic(auto)]
 
+mod carried;
 mod constants;
 mod copy;
 mod facts;

@@ -2,8 +2,9 @@
 ghost use Rattle.std.specs.Prelude.{◌≡◌, ◌<◌, ◌++◌, IfOk, OnOk, length, map};
 ghost use Rattle.std.specs.List.{AllByRecursion};
 ghost use Rattle.il_laws.specs.Facts.{through};
-ghost use Rattle.il_laws.specs.Known.{site_constants, site_of, known_in};
+ghost use Rattle.il_laws.specs.Known.{site_constants, site_of, known_from, known_in};
 ghost use Rattle.const_prop.specs.Tables.{AreNamed, Has, NamesRegisters, IsValidRoutine, facts_in};
+ghost use Rattle.const_prop.specs.Flow.{Follows, bare};
 ghost use Rattle.const_prop.specs.Sites.{words_of, words_at};
 
 use crate::facts::step;
@@ -23,18 +24,31 @@ pub fn site_constants(alloc: Global, r: &Routine) -> Result<KnownArgs, AllocErro
 {
     let blocks = r.blocks.as_slice();
     let mut flow = Flow::new(alloc, r.params, r.regs, blocks)?;
+    let mut table = flow.table(alloc)?;
     let mut known = Seq::new(alloc);
-    for (b, block) in blocks.iter().enumerate() {
-        let mut table = flow.enter(alloc, b)?;
-        put_sites(
-            alloc,
-            &mut known,
-            table.as_mut_slice(),
-            block.instrs.as_slice(),
-        )?;
-        flow.leave(alloc, b, block.end, table)?;
-    }
+    put_blocks(alloc, &mut known, &mut flow, table.as_mut_slice(), blocks)?;
     Ok(known)
+}
+
+/// Adds what is known at each call of these blocks, as the facts go from one to the next.
+fn put_blocks(
+    alloc: Global,
+    known: &mut KnownArgs,
+    flow: &mut Flow,
+    table: &mut [Option<u32>],
+    blocks: &[Block],
+) -> Result<(), AllocError>
+    requires named { AreNamed flow.old.regs blocks.now }
+    requires follows { Follows flow.old.regs flow.old.params blocks.now 0 flow.old }
+    requires count { length table.old ≡ flow.old.regs }
+    ensures { OnOk result (words_of known.new ≡ words_of known.old ++ map (λ s. s.known) (known_from (bare flow.old.params blocks.now) 0 blocks.now)) }
+{
+    for (b, block) in blocks.iter().enumerate() {
+        flow.enter(b, table);
+        put_sites(alloc, known, table, block.instrs.as_slice())?;
+        flow.leave(alloc, block.end, table)?;
+    }
+    Ok(())
 }
 
 /// Adds what is known at each call of these instructions, as the facts go through them.

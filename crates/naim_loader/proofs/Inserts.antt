@@ -21,7 +21,8 @@ use Rattle.naim_core.specs.declared.event.Form.TheVariants as form
 use Rattle.naim_core.specs.declared.event.Refusal.{Refusal}
 use Rattle.naim_core.specs.declared.event.Refusal.TheVariants.{Stopped, Present, Full, BadSize, TooSmall, NeedsRoom}
 use Rattle.naim_core.specs.declared.pool.Pool.{Pool}
-use Rattle.naim_core.proofs.Effects.{insert_did, running}
+use Rattle.naim_core.specs.declared.event.Event.{Event}
+use Rattle.naim_core.proofs.Effects.{Turned, insert_did, running}
 use Rattle.naim_loader.specs.declared.counters.Counters.{Counters}
 use Rattle.naim_loader.specs.declared.home.Home.{Home}
 use Rattle.naim_loader.specs.declared.table.Entry.{Entry}
@@ -91,9 +92,13 @@ fail_stepped s new w f before after r h sound apart limit workers counts =
     let k = rw (fail_ok s w f) at h in
     record { step = fail_ok s w f ∙ ap (λ z. Ok z) (sym k.1); sound = sound; apart = apart; limit = limit; workers = workers; counts = subst (λ z. MatchResult z (λ _. after ≡ counted (event.Fail w f) before new) (λ _. after ≡ before)) k.0 counts }
 
-still_failed : (o : Option Failure) (f : Failure) → option_map_or (λ kept. Some kept) o (Some f) ≡ None → ⊥
-still_failed None f e = cc
-still_failed (Some g) f e = cc
+-- a failure is kept then
+pub still_failed : (s new : Core) (f : Failure) → new ≡ failed s f → is_some new.failure ≡ true
+still_failed s new f is = ap (λ z. is_some z.failure) is ∙ by s.failure
+  where
+    by : (o : Option Failure) → is_some (option_map_or (λ kept. Some kept) o (Some f)) ≡ true
+    by None = refl
+    by (Some g) = refl
 
 free_lies : {T : Type 0} (spell : T → List ℕ) (place : ℕ) (f : Form) (b : Lying T) (r : T) → LiesIn spell f b r → LiesAs spell place (Rows.free_in f) b r
 free_lies spell place form.Expanded b r l = l
@@ -129,13 +134,14 @@ module _ {T B D : Type 0} (charge : T → ℕ) (spell : T → List ℕ) (is_valu
       let k = length-le_from_keys nat_eq_equiv (keys_of rows) s.pools w.differ (λ t i. pool_there limit s rows disk first counters t w (is_some-lookup (nat_eq t) rows ∙ i)) in
       let m : length (keys_of rows) ≡ length rows = length-map rows (λ r. r.0) in omega arith
 
-  pub insert_whole : (limit p : ℕ) (s new : Core) (rows rows' : List (ℕ × Entry T B)) (disk : Home D) (first : D) (before after : Counters) (f : Form) (e c : ℕ) (x : Entry T B) → Whole limit s rows disk first before → s.failure ≡ None
-      → Stepped s (event.Insert p f e c) new before after → Renews rows rows' p (Some x) → p < 131072 → is_value x.value.value → e ≡ charge x.value.value → c ≡ length (spell x.value.value) → LiesIn spell f x.body x.value.value
+  -- a pool comes in, or has a new value: it is free in the form
+  pub placed_whole : (limit p : ℕ) (s new : Core) (event : Event) (rows rows' : List (ℕ × Entry T B)) (disk : Home D) (first : D) (before after : Counters) (f : Form) (e c : ℕ) (x : Entry T B) → Whole limit s rows disk first before → s.failure ≡ None
+      → Turned s new p (Some (Rows.inserted f e c)) s.disk → Stepped s event new before after → Renews rows rows' p (Some x) → p < 131072 → is_value x.value.value → e ≡ charge x.value.value → c ≡ length (spell x.value.value) → LiesIn spell f x.body x.value.value
       → Whole limit new rows' disk first after
-  insert_whole limit p s new rows rows' disk first before after f e c x w none t put below value charge_is length_is lies =
-      whole_turned charge spell is_value bytes reach honest limit s new p (Some (Rows.inserted f e c)) (Some x) s.disk (event.Insert p f e c) rows rows' disk disk first before after w (record {
+  placed_whole limit p s new event rows rows' disk first before after f e c x w none turned t put below value charge_is length_is lies =
+      whole_turned charge spell is_value bytes reach honest limit s new p (Some (Rows.inserted f e c)) (Some x) s.disk event rows rows' disk disk first before after w (record {
         running = none;
-        turned = insert_did s new p f e c none t.step;
+        turned = turned;
         step = t;
         differ = put.differ;
         found = put.found;
@@ -152,35 +158,8 @@ module _ {T B D : Type 0} (charge : T → ℕ) (spell : T → List ℕ) (is_valu
         good = w.good;
       })
 
-  -- a failure leaves what is kept and the disk
-  pub fail_whole : (limit : ℕ) (s new : Core) (rows : List (ℕ × Entry T B)) (disk disk' : Home D) (first : D) (before after : Counters) (w : ℕ) (f : Failure) → Whole limit s rows disk first before → Stepped s (event.Fail w f) new before after → new ≡ failed s f
-      → (IsGood reach honest limit first → IsGood reach honest limit (told disk')) → Whole limit new rows disk' first after
-  fail_whole limit s new rows disk disk' first before after w f wh t is good =
-      let gone : new.failure ≡ None → ⊥ = λ n. still_failed s.failure f (sym (ap (λ z. z.failure) is) ∙ n) in
-      record {
-        limit_is = t.limit ∙ wh.limit_is;
-        small = wh.small;
-        workers = (let a = wh.workers in let b = t.workers in omega arith);
-        sound = t.sound;
-        differ = wh.differ;
-        stands = λ p. by p (pool_at s.pools p) (pool_at new.pools p) (lookup (nat_eq p) rows) (ap (λ z. pool_at z.pools p) is) (wh.stands p) gone;
-        home = λ n. absurd (gone n);
-        good = good;
-        peak = peak_kept limit s new (event.Fail w f) before after wh.limit_is wh.peak t;
-      }
-    where
-      by : (p : ℕ) (o o' : Option Pool) (e : Option (Entry T B)) → o' ≡ o → Stands charge spell is_value limit (s.failure ≡ None) (IsGood reach honest limit first) (bytes (told disk)) p o e → (new.failure ≡ None → ⊥)
-          → Stands charge spell is_value limit (new.failure ≡ None) (IsGood reach honest limit first) (bytes (told disk')) p o' e
-      by p None None None i k g = k
-      by p None None (Some e) i k g = k
-      by p None (Some x) e i k g = cc
-      by p (Some x) None e i k g = cc
-      by p (Some x) (Some y) None i k g = k
-      by p (Some x) (Some y) (Some e) i k g = (let same : y ≡ x = same_Some y x i in record {
-        below = k.below;
-        value = k.value;
-        charge_is = ap (λ z. z.e) same ∙ k.charge_is;
-        length_is = ap (λ z. z.c) same ∙ k.length_is;
-        lies = λ n. absurd (g n);
-        filed = λ n. absurd (g n);
-      })
+  pub insert_whole : (limit p : ℕ) (s new : Core) (rows rows' : List (ℕ × Entry T B)) (disk : Home D) (first : D) (before after : Counters) (f : Form) (e c : ℕ) (x : Entry T B) → Whole limit s rows disk first before → s.failure ≡ None
+      → Stepped s (event.Insert p f e c) new before after → Renews rows rows' p (Some x) → p < 131072 → is_value x.value.value → e ≡ charge x.value.value → c ≡ length (spell x.value.value) → LiesIn spell f x.body x.value.value
+      → Whole limit new rows' disk first after
+  insert_whole limit p s new rows rows' disk first before after f e c x w none t put =
+      placed_whole limit p s new (event.Insert p f e c) rows rows' disk first before after f e c x w none (insert_did s new p f e c none t.step) t put

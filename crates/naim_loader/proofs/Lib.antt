@@ -1,7 +1,13 @@
+pub mod Ends
 pub mod Events
+pub mod Evictions
+pub mod Homes
 pub mod Inserts
 pub mod Reloads
+pub mod Removals
 pub mod Rows
 pub mod Unpins
 pub mod Views
+pub mod Waves
 pub mod Wholes
+pub mod Writes

@@ -1,5 +1,5 @@
 -- A reload begins.
-use Rattle.std.proofs.Common.{◌≡◌, ℕ, ◌*◌, ◌≤◌, ◌^◌, Bool, true, false, List, [], ◌∷◌, Option, Some, None, Vec, Err, refl, sym, ap, subst, arith, ◌∙◌}
+use Rattle.std.proofs.Common.{◌≡◌, ℕ, ◌+◌, ◌*◌, ◌<◌, ◌≤◌, ◌^◌, Bool, true, false, List, [], ◌∷◌, length, Option, Some, None, Vec, Err, refl, sym, ap, subst, arith, ◌∙◌}
 use Rattle.std.specs.Prelude.{is_none, is_some, nat_lt, not, ◌&&◌, ◌||◌, if◌then◌else◌}
 use Rattle.std.specs.declared.alloc.Global.{Global}
 use Rattle.std.proofs.lemmas.Bool.Decides.{nat_tests}
@@ -61,12 +61,12 @@ away_still (stage.Reloading m from_disk) a = cc
 free_hand : (m : Option ℕ) (q : Option ℕ) → m ≡ None → q ≡ None → (is_some m || is_some q) ≡ false
 free_hand m q e f = ap (λ z. is_some z || is_some q) e ∙ ap is_some f
 
-own_task : (a b : Bool) (t : Option ℕ) (p : ℕ) → (a ≡ true → b ≡ true → t ≡ Some p) → (a && b && not (holds t p)) ≡ false
+pub own_task : (a b : Bool) (t : Option ℕ) (p : ℕ) → (a ≡ true → b ≡ true → t ≡ Some p) → (a && b && not (holds t p)) ≡ false
 own_task false b t p h = refl
 own_task true false t p h = refl
 own_task true true t p h = ap (λ o. not (holds o p)) (h refl refl) ∙ ap not (number_itself p)
 
-not_less : (m n : ℕ) → n ≤ m → nat_lt m n ≡ false
+pub not_less : (m n : ℕ) → n ≤ m → nat_lt m n ≡ false
 not_less m n h = grind (arith, nat_tests)
 
 pub reload_refused : (s : Core) (w p : ℕ) (m : Mode) (x : Pool) (r : Refusal) → s.failure ≡ None → pool_at s.pools p ≡ Some x → is_away x.stage ≡ true → Allows s w p m → step_of s (event.ReloadBegin w p m) ≡ Err r → r ≡ DiskOut
@@ -132,6 +132,8 @@ module _ {T D : Type 0} (charge : T → ℕ) (spell : T → List ℕ) (bytes : D
     pub value : T
     pub lies : LiesAs spell (p * limit) x.stage was value
     pub charge_is : x.e ≡ charge value
+    pub length_is : x.c ≡ length (spell value)
+    pub below : p < 131072
     pub filed : IsGood reach honest limit first → is_filed x.stage ≡ true → HasBytes (bytes (told disk)) (p * limit) (spell value)
     pub disk_is : new.disk ≡ (if is_offloaded x.stage then Some w else s.disk)
     pub home : x.stage ≡ stage.Offloaded → is_none s.disk ≡ true
@@ -151,6 +153,8 @@ module _ {T B D : Type 0} (charge : T → ℕ) (spell : T → List ℕ) (is_valu
           value = put.entry.value.value;
           lies = subst (λ z. LiesAs spell (p * limit) x.stage z put.entry.value.value) put.was_is (subst (λ z. LiesAs spell (p * limit) x.stage z.body z.value.value) same (th.standing.lies none));
           charge_is = th.standing.charge_is ∙ ap (λ z. charge z.value.value) same;
+          length_is = th.standing.length_is ∙ ap (λ z. length (spell z.value.value)) same;
+          below = th.standing.below;
           filed = λ g f. subst (λ z. HasBytes (bytes (told disk)) (p * limit) (spell z.value.value)) same (th.standing.filed none g f);
           disk_is = d.turned.disk_is ∙ ap (λ z. if is_offloaded z.stage then Some w else s.disk) pool;
           home = λ st. ap is_none (d.was.1 (ap (λ z. z.stage) pool ∙ st));
@@ -182,14 +186,14 @@ module _ {T B D : Type 0} (charge : T → ℕ) (spell : T → List ℕ) (is_valu
 module _ {T B D : Type 0} (charge : T → ℕ) (spell : T → List ℕ) (bytes : D → Option (List ℕ)) (reach : D → ℕ) (honest : D → Bool) where
   pub answers_packed : (old v : Paged T B D) (w p : ℕ) (m : Mode) (b : Vec ℕ Global) (r : T) (new : Core) (after : Counters) (kept : List (ℕ × Kept T B)) (d : D) (home : Bool) → v ≡ old → Stepped v.core (event.ReloadBegin w p m) new v.counters after → kept ≡ v.kept
       → d ≡ v.disk → home ≡ is_none new.disk → content_at v p ≡ Some r → b.items ≡ spell r
-      → AnswersPin charge spell bytes reach honest old (record { core = new; kept = kept; disk = d; home = home; first = v.first; counters = after }) w p m (answer.Reload (move.FromBytes p b))
+      → AnswersPin charge spell bytes reach honest old (record { core = new; kept = kept; disk = d; home = home; first = v.first; counters = after; trail = v.trail }) w p m (answer.Reload (move.FromBytes p b))
   answers_packed old v w p m b r new after kept d home e t k same h at is = (steps_view old v (event.ReloadBegin w p m) new after kept d home e t k same h, (refl, (r, ap (λ z. content_at z p) (sym e) ∙ at, is)))
 
   pub answers_stored : (old v : Paged T B D) (w p : ℕ) (m : Mode) (f : Filed) (number : ℕ) (lent : D) (r : T) (new : Core) (after : Counters) (kept : List (ℕ × Kept T B)) (d : D) (home : Bool) → v ≡ old → Stepped v.core (event.ReloadBegin w p m) new v.counters after
-      → kept ≡ v.kept → d ≡ v.disk → home ≡ is_none new.disk → content_at v p ≡ Some r → f ≡ record_of (p * v.core.limit) (spell r) → number ≡ charge r → lent ≡ v.disk
+      → kept ≡ v.kept → d ≡ v.disk → home ≡ is_none new.disk → content_at v p ≡ Some r → f ≡ record_of (p * v.core.limit) (spell r) → number ≡ charge r → lent ≡ v.disk → p * v.core.limit + length (spell r) ≤ 131072 * v.core.limit
       → (IsTrusted reach honest v → HasBytes (bytes lent) (p * v.core.limit) (spell r))
-      → AnswersPin charge spell bytes reach honest old (record { core = new; kept = kept; disk = d; home = home; first = v.first; counters = after }) w p m (answer.Reload (move.FromDisk p f number lent))
-  answers_stored old v w p m f number lent r new after kept d home e t k same h at is n l there = (
+      → AnswersPin charge spell bytes reach honest old (record { core = new; kept = kept; disk = d; home = home; first = v.first; counters = after; trail = v.trail }) w p m (answer.Reload (move.FromDisk p f number lent))
+  answers_stored old v w p m f number lent r new after kept d home e t k same h at is n l within there = (
     steps_view old v (event.ReloadBegin w p m) new after kept d home e t k same h,
     (
       refl,
@@ -200,6 +204,7 @@ module _ {T B D : Type 0} (charge : T → ℕ) (spell : T → List ℕ) (bytes :
           content = ap (λ z. content_at z p) (sym e) ∙ at;
           charge_is = n;
           disk_is = l ∙ ap (λ z. z.disk) e;
+          within = subst (λ z. p * z.core.limit + length (spell r) ≤ 131072 * z.core.limit) e within;
           there = subst (λ z. IsTrusted reach honest z → HasBytes (bytes lent) (p * z.core.limit) (spell r)) e there;
         },
       ),

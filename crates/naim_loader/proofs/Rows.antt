@@ -14,12 +14,12 @@ use Rattle.naim_loader.specs.declared.table.Entry.{Entry}
 use Rattle.naim_loader.specs.declared.table.Lying.{Lying}
 use Rattle.naim_loader.specs.Rows.{IsTable, Puts, Renews, kept_in, kept_of}
 
-get_put : {A : Type 0} (xs : List A) (i : ℕ) (x : A) → i < length xs → slice_get (slice_set xs i x) i ≡ Some x
+pub get_put : {A : Type 0} (xs : List A) (i : ℕ) (x : A) → i < length xs → slice_get (slice_set xs i x) i ≡ Some x
 get_put [] i x below = absurd (omega arith)
 get_put (y ∷ xs) zero x below = refl
 get_put (y ∷ xs) (suc i) x below = get_put xs i x (omega arith)
 
-get_other : {A : Type 0} (xs : List A) (i j : ℕ) (x : A) → i ≢ j → slice_get (slice_set xs i x) j ≡ slice_get xs j
+pub get_other : {A : Type 0} (xs : List A) (i j : ℕ) (x : A) → i ≢ j → slice_get (slice_set xs i x) j ≡ slice_get xs j
 get_other [] i j x ne = refl
 get_other (y ∷ xs) zero zero x ne = absurd (ne refl)
 get_other (y ∷ xs) zero (suc j) x ne = refl

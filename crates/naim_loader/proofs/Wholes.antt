@@ -1,6 +1,6 @@
 -- A loader stays whole.
-use Rattle.std.proofs.Common.{◌≡◌, ℕ, ◌*◌, ◌≤◌, Bool, true, false, cond, nat_eq, List, length, Option, Some, None, Ok, refl, sym, ap, subst, arith, ◌∙◌}
-use Rattle.std.specs.Prelude.{is_none, max}
+use Rattle.std.proofs.Common.{◌≡◌, ℕ, ◌*◌, ◌≤◌, Bool, true, false, cond, nat_eq, List, length, Option, Some, None, Result, Ok, Err, refl, sym, ap, subst, arith, ◌∙◌}
+use Rattle.std.specs.Prelude.{IfErr, IfOk, is_none, is_some, max}
 use Rattle.std.specs.List.{IsDistinct}
 use Rattle.std.specs.Map.{keys_of, lookup}
 use Rattle.std.proofs.lemmas.Option.{same_Some}
@@ -8,19 +8,23 @@ use Rattle.repository.specs.Record.{HasBytes}
 use Rattle.naim_core.specs.Charges.{under_sum}
 use Rattle.naim_core.specs.State.{Core, pool_at}
 use Rattle.naim_core.specs.Sound.{IsSound, RecordsApart}
-use Rattle.naim_core.specs.Steps.{Follows, step_of}
+use Rattle.naim_core.specs.Steps.{Follows, is_fail, step_of}
 use Rattle.naim_core.specs.declared.event.Event.{Event}
 use Rattle.naim_core.specs.declared.pool.Pool.{Pool}
-use Rattle.naim_core.proofs.Effects.{Turned, follows_ok}
+use Rattle.naim_core.specs.declared.event.Failure.{Failure}
+use Rattle.naim_core.specs.declared.event.Refusal.{Refusal}
+use Rattle.naim_core.specs.declared.event.Refusal.TheVariants.{Stopped}
+use Rattle.naim_core.proofs.Effects.{Turned, follows_err, follows_ok, stopped}
 use Rattle.list_laws.proofs.Entries.{same_number}
 use Rattle.naim_loader.specs.declared.counters.Counters.{Counters}
 use Rattle.naim_loader.specs.declared.home.Home.{Home}
 use Rattle.naim_loader.specs.declared.table.Entry.{Entry}
 use Rattle.naim_loader.specs.declared.table.Lying.{Lying}
-use Rattle.naim_loader.specs.Counting.{counted, Stepped}
+use Rattle.naim_loader.specs.Counting.{counted, Refused, Stepped}
 use Rattle.naim_loader.specs.Forms.{LiesAs, is_filed}
 use Rattle.naim_loader.specs.Home.{told, is_home}
 use Rattle.naim_loader.specs.Paged.{IsGood}
+use Rattle.naim_loader.specs.Rows.{Puts}
 use Rattle.naim_loader.specs.Whole.{Standing, Stands, IsWhole}
 
 -- an event that was taken
@@ -28,9 +32,31 @@ pub stepped : (s : Core) (e : Event) (new : Core) (before after : Counters) → 
     → Stepped s e new before after
 stepped s e new before after f sound apart limit workers counts = record { step = follows_ok (step_of s e) s new f; sound = sound; apart = apart; limit = limit; workers = workers; counts = counts }
 
+-- an event that was refused
+pub refused : (s : Core) (e : Event) (r : Refusal) (new : Core) (before after : Counters) → Follows (step_of s e) s (Err r) new → after ≡ before → Refused s e r new before after
+refused s e r new before after f counts = let k = follows_err (step_of s e) s new r f in record { step = k.1; same = k.0; counts = counts }
+
 pub peak_kept : (limit : ℕ) (s new : Core) (event : Event) (before after : Counters) → s.limit ≡ limit → before.under_peak ≤ limit → Stepped s event new before after → after.under_peak ≤ limit
 peak_kept limit s new event before after l p t =
     let e : after.under_peak ≡ max before.under_peak (under_sum new.pools) = ap (λ c. c.under_peak) t.counts in let f = t.sound.under_fits in let k = t.limit in omega arith
+
+no_some : (o : Option Failure) → is_some o ≡ true → o ≡ None → ⊥
+no_some None h e = cc
+no_some (Some f) h e = cc
+
+-- pools, disk and failure are what they were
+pub record Still (s new : Core) : Type 0 where
+  pub pools : new.pools ≡ s.pools
+  pub disk : new.disk ≡ s.disk
+  pub failure : new.failure ≡ s.failure
+
+-- an event that was taken, and that tells no failure, found none kept
+pub ran : (s new : Core) (e : Event) → is_fail e ≡ false → step_of s e ≡ Ok new → s.failure ≡ None
+ran s new e other h = by s.failure refl
+  where
+    by : (o : Option Failure) → s.failure ≡ o → s.failure ≡ None
+    by None k = k
+    by (Some f) k = (let q : Err Stopped ≡ Ok new = sym (stopped s e (ap is_some k) other) ∙ h in cc)
 
 module _ {T B D : Type 0} (charge : T → ℕ) (spell : T → List ℕ) (is_value : T → Type 0) (bytes : D → Option (List ℕ)) (reach : D → ℕ) (honest : D → Bool) where
   abbrev Whole : ℕ → Core → List (ℕ × Entry T B) → Home D → D → Counters → Type 0
@@ -39,6 +65,30 @@ module _ {T B D : Type 0} (charge : T → ℕ) (spell : T → List ℕ) (is_valu
   -- a refused event leaves it
   pub whole_same : (limit : ℕ) (s new : Core) (rows : List (ℕ × Entry T B)) (disk : Home D) (first : D) (before after : Counters) → Whole limit s rows disk first before → new ≡ s → after ≡ before → Whole limit new rows disk first after
   whole_same limit s new rows disk first before after w e f = subst (λ z. Whole limit z rows disk first after) (sym e) (subst (Whole limit s rows disk first) (sym f) w)
+
+  pub whole_refused : (limit : ℕ) (s new : Core) (event : Event) (r : Refusal) (rows : List (ℕ × Entry T B)) (disk : Home D) (first : D) (before after : Counters) → Whole limit s rows disk first before → Refused s event r new before after → Whole limit new rows disk first after
+  whole_refused limit s new event r rows disk first before after w f = whole_same limit s new rows disk first before after w f.same f.counts
+
+  -- an event that changes no pool, nor who has the disk
+  pub whole_still : (limit : ℕ) (s new : Core) (event : Event) (rows : List (ℕ × Entry T B)) (disk : Home D) (first : D) (before after : Counters) → Whole limit s rows disk first before → Stepped s event new before after → Still s new → Whole limit new rows disk first after
+  whole_still limit s new event rows disk first before after w t still = record {
+    limit_is = t.limit ∙ w.limit_is;
+    small = w.small;
+    workers = (let a = w.workers in let b = t.workers in omega arith);
+    sound = t.sound;
+    differ = w.differ;
+    stands = λ q. subst (λ z. Stands charge spell is_value limit (z ≡ None) (IsGood reach honest limit first) (bytes (told disk)) q (pool_at new.pools q) (lookup (nat_eq q) rows)) (sym still.failure)
+        (subst (λ z. Stands charge spell is_value limit (s.failure ≡ None) (IsGood reach honest limit first) (bytes (told disk)) q (pool_at z q) (lookup (nat_eq q) rows)) (sym still.pools) (w.stands q));
+    home = λ n. w.home (sym still.failure ∙ n) ∙ ap is_none (sym still.disk);
+    good = w.good;
+    peak = peak_kept limit s new event before after w.limit_is w.peak t;
+  }
+
+  -- the same whether it was taken or refused
+  pub whole_answered : (limit : ℕ) (s new : Core) (event : Event) (r : Result (Unit {0}) Refusal) (rows : List (ℕ × Entry T B)) (disk : Home D) (first : D) (before after : Counters) → Whole limit s rows disk first before
+      → IfOk r (λ _. Stepped s event new before after) → IfErr r (λ x. Refused s event x new before after) → (step_of s event ≡ Ok new → Still s new) → Whole limit new rows disk first after
+  whole_answered limit s new event (Ok u) rows disk first before after w t f still = whole_still limit s new event rows disk first before after w t (still t.step)
+  whole_answered limit s new event (Err x) rows disk first before after w t f still = whole_refused limit s new event x rows disk first before after w f
 
   -- a pool that is there with what is kept of it
   pub record There (limit : ℕ) (s : Core) (rows : List (ℕ × Entry T B)) (disk : Home D) (first : D) (p : ℕ) (x : Pool) : Type 0 where
@@ -69,6 +119,46 @@ module _ {T B D : Type 0} (charge : T → ℕ) (spell : T → List ℕ) (is_valu
     lies = λ r. h.lies (back r);
     filed = λ r g f. same g x (spell e.value.value) refl h.length_is f (h.filed (back r) g f);
   }
+
+  -- once a failure is kept, nothing is said of bodies and records
+  stands_halted : (limit : ℕ) (run run' trusted : Type 0) (old new : Option (List ℕ)) (q : ℕ) (o : Option Pool) (e : Option (Entry T B)) → (run' → ⊥) → Stands charge spell is_value limit run trusted old q o e → Stands charge spell is_value limit run' trusted new q o e
+  stands_halted limit run run' trusted old new q None None gone h = h
+  stands_halted limit run run' trusted old new q None (Some e) gone h = h
+  stands_halted limit run run' trusted old new q (Some x) None gone h = h
+  stands_halted limit run run' trusted old new q (Some x) (Some e) gone h = record { below = h.below; value = h.value; charge_is = h.charge_is; length_is = h.length_is; lies = λ r. absurd (gone r); filed = λ r. absurd (gone r) }
+
+  -- once a failure is kept, a disk may come home
+  pub whole_halted : (limit : ℕ) (s : Core) (rows : List (ℕ × Entry T B)) (disk disk' : Home D) (first : D) (counters : Counters) → Whole limit s rows disk first counters → is_some s.failure ≡ true → (IsGood reach honest limit first → IsGood reach honest limit (told disk')) → Whole limit s rows disk' first counters
+  whole_halted limit s rows disk disk' first counters w kept good =
+      let gone : s.failure ≡ None → ⊥ = λ n. no_some s.failure kept n in
+      record {
+        limit_is = w.limit_is;
+        small = w.small;
+        workers = w.workers;
+        sound = w.sound;
+        differ = w.differ;
+        stands = λ q. stands_halted limit (s.failure ≡ None) (s.failure ≡ None) (IsGood reach honest limit first) (bytes (told disk)) (bytes (told disk')) q (pool_at s.pools q) (lookup (nat_eq q) rows) gone (w.stands q);
+        home = λ n. absurd (gone n);
+        good = good;
+        peak = w.peak;
+      }
+
+  -- a failure leaves what is kept, and the disk
+  pub fail_whole : (limit : ℕ) (s new : Core) (event : Event) (rows : List (ℕ × Entry T B)) (disk : Home D) (first : D) (before after : Counters) → Whole limit s rows disk first before → Stepped s event new before after → new.pools ≡ s.pools → is_some new.failure ≡ true → Whole limit new rows disk first after
+  fail_whole limit s new event rows disk first before after w t pools kept =
+      let gone : new.failure ≡ None → ⊥ = λ n. no_some new.failure kept n in
+      record {
+        limit_is = t.limit ∙ w.limit_is;
+        small = w.small;
+        workers = (let a = w.workers in let b = t.workers in omega arith);
+        sound = t.sound;
+        differ = w.differ;
+        stands = λ q. subst (λ z. Stands charge spell is_value limit (new.failure ≡ None) (IsGood reach honest limit first) (bytes (told disk)) q (pool_at z q) (lookup (nat_eq q) rows)) (sym pools)
+            (stands_halted limit (s.failure ≡ None) (new.failure ≡ None) (IsGood reach honest limit first) (bytes (told disk)) (bytes (told disk)) q (pool_at s.pools q) (lookup (nat_eq q) rows) gone (w.stands q));
+        home = λ n. absurd (gone n);
+        good = w.good;
+        peak = peak_kept limit s new event before after w.limit_is w.peak t;
+      }
 
   -- An event of the pool p, which now is y, with e kept of it.
   pub record Turns (limit : ℕ) (s new : Core) (p : ℕ) (y : Option Pool) (e : Option (Entry T B)) (d : Option ℕ) (event : Event) (rows rows' : List (ℕ × Entry T B)) (disk disk' : Home D) (first : D) (before after : Counters) : Type 0 where
@@ -153,6 +243,14 @@ module _ {T B D : Type 0} (charge : T → ℕ) (spell : T → List ℕ) (is_valu
         home = m.home;
         good = λ g. subst (IsGood reach honest limit) (sym m.same) (w.good g);
       })
+
+  -- where the body of p was taken out, it lay as the pool's stage says
+  pub put_lies : (limit : ℕ) (s : Core) (rows rows' : List (ℕ × Entry T B)) (disk : Home D) (first : D) (counters : Counters) (p : ℕ) (x : Pool) (body was : Lying T) → Whole limit s rows disk first counters → s.failure ≡ None → pool_at s.pools p ≡ Some x
+      → (put : Puts rows rows' p body was) → LiesAs spell (p * limit) x.stage was put.entry.value.value
+  put_lies limit s rows rows' disk first counters p x body was w none at put =
+      let th = there limit s rows disk first counters p x w at in
+      let same : th.entry ≡ put.entry = same_Some th.entry put.entry (sym th.at ∙ put.at) in
+      subst (λ z. LiesAs spell (p * limit) x.stage z put.entry.value.value) put.was_is (subst (λ z. LiesAs spell (p * limit) x.stage z.body z.value.value) same (th.standing.lies none))
 
   -- what is kept of p stays
   pub found_same : (rows : List (ℕ × Entry T B)) (p : ℕ) (e : Entry T B) → lookup (nat_eq p) rows ≡ Some e → (q : ℕ) → lookup (nat_eq q) rows ≡ cond (nat_eq p q) (Some e) (lookup (nat_eq q) rows)

@@ -1,5 +1,5 @@
 -- What the loader's calls answer.
-use Rattle.std.specs.Prelude.{◌≡◌, ◌≤◌, ◌*◌, ◌^◌, ℕ, Bool, true, cond, List, Option, Some, None, Ok, Err, IsOk, Result, Vec, is_some, length, nat_eq, ⊤, option_map}
+use Rattle.std.specs.Prelude.{◌≡◌, ◌≤◌, ◌+◌, ◌*◌, ◌^◌, ◌⊎◌, ℕ, Bool, true, false, cond, List, [], ◌∷◌, ◌++◌, Option, Some, None, IsSome, Ok, Err, IsOk, Result, Vec, is_some, is_none, length, nat_eq, slice_get, ⊤, option_map}
 use Rattle.std.specs.Arc.{arc_value}
 use Rattle.repository.specs.Record.{HasBytes}
 use Rattle.repository.specs.Filing.{record_of}
@@ -24,12 +24,13 @@ use Rattle.naim_loader.specs.declared.forms.Pin.TheVariants as pin
 use Rattle.naim_loader.specs.declared.forms.PinAnswer.{PinAnswer}
 use Rattle.naim_loader.specs.declared.forms.PinAnswer.TheVariants as answer
 use Rattle.naim_loader.specs.declared.forms.ReadPin.{ReadPin}
+use Rattle.naim_loader.specs.declared.forms.WritePin.{WritePin}
 use Rattle.std.specs.declared.alloc.Global.{Global}
 use Rattle.naim_loader.specs.declared.forms.Put.{Put}
 use Rattle.naim_loader.specs.declared.forms.Put.TheVariants as put
 use Rattle.naim_loader.specs.Counting.{counted}
 use Rattle.naim_loader.specs.Drafts.{draft_value, draft_form}
-use Rattle.naim_loader.specs.Paged.{Paged, kept_at, content_at, Steps, Changes, IsTrusted}
+use Rattle.naim_loader.specs.Paged.{Paged, kept_at, content_at, Steps, Changes, IsGood, IsTrusted}
 use Rattle.naim_loader.specs.Rows.{Kept}
 
 -- what is kept of p is now k, and of every other pool what it was
@@ -49,10 +50,16 @@ pub record Stopped {T B D : Type 0} (old new : Paged T B D) : Type 0 where
 pub record Fails {T B D : Type 0} (old : Paged T B D) (w : ℕ) (f : Failure) (new : Paged T B D) : Type 0 where
   pub same : new ≡ record old { core = failed old.core f; counters = counted (event.Fail w f) old.counters (failed old.core f) }
 
--- a new pool is in: it has the value and the brief
+-- a new pool is in: it has the value and the brief, and the trail has its insertion
 pub record Inserts {T B D : Type 0} (charge : T → ℕ) (spell : T → List ℕ) (old new : Paged T B D) (p : ℕ) (d : Draft T) (brief : B) : Type 0 where
-  pub event : Changes old (event.Insert p (draft_form d) (charge (draft_value d)) (length (spell (draft_value d)))) new
-  pub disk_same : new.disk ≡ old.disk
+  pub step : step_of old.core (event.Insert p (draft_form d) (charge (draft_value d)) (length (spell (draft_value d)))) ≡ Ok new.core
+  pub same : new ≡ record old {
+    core = new.core;
+    counters = counted (event.Insert p (draft_form d) (charge (draft_value d)) (length (spell (draft_value d)))) old.counters new.core;
+    home = is_none new.core.disk;
+    kept = new.kept;
+    trail = record old.trail { insertions = old.trail.insertions ++ p ∷ [] };
+  }
   pub kept : KeepsAt old new p (Some (record { value = draft_value d; brief = brief }))
 
 -- the answer to an insertion
@@ -85,11 +92,13 @@ module _ {T B D : Type 0} (charge : T → ℕ) (spell : T → List ℕ) (bytes :
   IsPin old p mode.Read (pin.Write x) = ⊥
   IsPin old p (mode.Write room) (pin.Read x) = ⊥
 
-  -- the record of the value r of p, handed out with the disk, which has its bytes if it is trusted
+  -- the record of the value r of p, below the places that a disk has to reach, handed out with the disk, which has its bytes
+  -- if it is trusted
   pub record HandsRecord (old : Paged T B D) (p : ℕ) (number : ℕ) (d : D) (r : T) : Type 0 where
     pub content : content_at old p ≡ Some r
     pub charge_is : number ≡ charge r
     pub disk_is : d ≡ old.disk
+    pub within : p * old.core.limit + length (spell r) ≤ 131072 * old.core.limit
     pub there : IsTrusted reach honest old → HasBytes (bytes d) (p * old.core.limit) (spell r)
 
   -- what is handed out to be made the body of p: the bytes or the record of the value that the contents have
@@ -123,3 +132,65 @@ unpin_form (Some v) = form.Compacted
 abbrev pub AnswersUnpin : {T B D : Type 0} → Paged T B D → Paged T B D → ℕ → ReadPin T → Form → Result (Unit {0}) (ReadPin T × ℕ) → Type 0
 AnswersUnpin old new w x f (Ok u) = Steps old (event.UnpinRead w x.pid f) new
 AnswersUnpin old new w x f (Err e) = (new ≡ old) × (step_of old.core (event.UnpinRead w x.pid f) ≡ Err (refusal.NeedsRoom e.1)) × (e.0 ≡ x)
+
+-- a pool has a new value and a new brief
+pub record Writes {T B D : Type 0} (charge : T → ℕ) (spell : T → List ℕ) (old new : Paged T B D) (w p : ℕ) (d : Draft T) (brief : B) : Type 0 where
+  pub there : IsSome (kept_at old p)
+  pub event : Changes old (event.UnpinWrite w p (draft_form d) (charge (draft_value d)) (length (spell (draft_value d)))) new
+  pub disk_same : new.disk ≡ old.disk
+  pub kept : KeepsAt old new p (Some (record { value = draft_value d; brief = brief }))
+
+-- the new value's form, of those bytes, doesn't fit now; what was handed in comes back, and all is as it was
+abbrev pub WantsRoom : {T B D : Type 0} (charge : T → ℕ) (spell : T → List ℕ) → Paged T B D → Paged T B D → ℕ → ℕ → Draft T → B → Put T B → Type 0
+WantsRoom charge spell old new w p d brief (put.NeedsRoom bytes back brief_back) =
+    (new ≡ old) × (step_of old.core (event.UnpinWrite w p (draft_form d) (charge (draft_value d)) (length (spell (draft_value d)))) ≡ Err (refusal.NeedsRoom bytes)) × (back ≡ d) × (brief_back ≡ brief)
+WantsRoom charge spell old new w p d brief _ = ⊥
+
+-- the answer to the end of a pin for writing
+abbrev pub AnswersWrite : {T B D : Type 0} (charge : T → ℕ) (spell : T → List ℕ) → Paged T B D → Paged T B D → ℕ → WritePin T → Draft T → B → Result (Put T B) (WritePin T × Put T B) → Type 0
+AnswersWrite charge spell old new w x d brief (Ok put.Done) = Writes charge spell old new w x.pid d brief
+AnswersWrite charge spell old new w x d brief (Ok (put.NeedsRoom bytes back brief_back)) = ⊥
+AnswersWrite charge spell old new w x d brief (Ok (put.TooSmall pid need limit)) =
+    (step_of old.core (event.UnpinWrite w x.pid (draft_form d) (charge (draft_value d)) (length (spell (draft_value d)))) ≡ Err (refusal.TooSmall need)) × (pid ≡ x.pid) × (limit ≡ old.core.limit)
+    × Fails old w (failure.TooSmall x.pid need limit) new
+AnswersWrite charge spell old new w x d brief (Ok put.Stopped) = Stopped old new
+AnswersWrite charge spell old new w x d brief (Err e) = (e.0 ≡ x) × WantsRoom charge spell old new w x.pid d brief e.1
+
+-- a pool is gone, with its value and its brief
+pub record Removes {T B D : Type 0} (old new : Paged T B D) (p : ℕ) : Type 0 where
+  pub there : IsSome (kept_at old p)
+  pub event : Changes old (event.Remove p) new
+  pub disk_same : new.disk ≡ old.disk
+  pub kept : KeepsAt old new p None
+
+-- the answer to a claim: the first task that nobody claimed, or none is left, or a failure is kept
+abbrev pub AnswersClaim : {T B D : Type 0} → Paged T B D → Paged T B D → ℕ → Option ℕ → Type 0
+AnswersClaim old new w (Some t) = Steps old (event.Claim w) new × (slice_get old.core.unclaimed 0 ≡ Some t)
+AnswersClaim old new w None = (new ≡ old) × ((is_some old.core.failure ≡ true) ⊎ (slice_get old.core.unclaimed 0 ≡ None))
+
+-- the disk that a move carries
+abbrev pub disk_of : {T D : Type 0} → Move T D → Option D
+disk_of (move.Compacting p a) = None
+disk_of (move.Offloading p place b d) = Some d
+disk_of (move.FromBytes p b) = None
+disk_of (move.FromDisk p filed number d) = Some d
+
+-- the disk that a move carries, if there is a move
+abbrev pub disk_with : {T D : Type 0} → Option (Move T D) → Option D
+disk_with None = None
+disk_with (Some m) = disk_of m
+
+-- the disk comes home, if one does
+abbrev pub brought : {T B D : Type 0} → Paged T B D → Option D → Paged T B D
+brought l None = l
+brought l (Some d) = record l { disk = d; home = true }
+
+-- A disk that comes back was out; if it is trusted, it is honest still and reaches as far.
+abbrev pub ComesBack : {T B D : Type 0} → (D → ℕ) → (D → Bool) → Paged T B D → Option D → Type 0
+ComesBack reach honest l None = ⊤
+ComesBack reach honest l (Some d) = (l.home ≡ false) × (IsTrusted reach honest l → IsGood reach honest l.core.limit d)
+
+-- a failure was kept before; a disk came home, and nothing else has changed
+pub record Back {T B D : Type 0} (old : Paged T B D) (d : Option D) (new : Paged T B D) : Type 0 where
+  pub kept : is_some old.core.failure ≡ true
+  pub same : new ≡ brought old d

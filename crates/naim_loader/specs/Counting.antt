@@ -1,11 +1,12 @@
 -- What events add to the peaks and counts.
-use Rattle.std.specs.Prelude.{◌≡◌, length, Ok, ℕ, ◌+◌, ◌-◌, ◌^◌, Bool, true, false, min, max, if◌then◌else◌}
+use Rattle.std.specs.Prelude.{◌≡◌, length, Ok, Err, ℕ, ◌+◌, ◌-◌, ◌^◌, Bool, true, false, min, max, if◌then◌else◌}
 use Rattle.naim_core.specs.Charges.{under_sum, held_sum}
 use Rattle.naim_core.specs.State.{Core}
 use Rattle.naim_core.specs.Sound.{IsSound, RecordsApart}
 use Rattle.naim_core.specs.Steps.{step_of}
 use Rattle.naim_core.specs.declared.event.Event.{Event}
 use Rattle.naim_core.specs.declared.event.Event.TheVariants as event
+use Rattle.naim_core.specs.declared.event.Refusal.{Refusal}
 use Rattle.naim_loader.specs.declared.counters.Counters.{Counters}
 
 abbrev pub is_compact_end : Event → Bool
@@ -42,6 +43,12 @@ pub record Stepped (s : Core) (e : Event) (new : Core) (before after : Counters)
   pub limit : new.limit ≡ s.limit
   pub workers : length new.hands ≡ length s.hands
   pub counts : after ≡ counted e before new
+
+-- the event was refused, and nothing has changed
+pub record Refused (s : Core) (e : Event) (r : Refusal) (new : Core) (before after : Counters) : Type 0 where
+  pub step : step_of s e ≡ Err r
+  pub same : new ≡ s
+  pub counts : after ≡ before
 
 abbrev pub no_counts : Counters
 no_counts = record { charged_peak = 0; under_peak = 0; compactions = 0; offloads = 0; reloads = 0 }

@@ -3,6 +3,8 @@ pub mod Counting
 pub mod Drafts
 pub mod Forms
 pub mod Home
+pub mod Moves
 pub mod Paged
 pub mod Rows
+pub mod Trails
 pub mod Whole

@@ -7,9 +7,11 @@ use Rattle.naim_core.specs.declared.event.Event.{Event}
 use Rattle.naim_loader.specs.declared.counters.Counters.{Counters}
 use Rattle.naim_loader.specs.Counting.{counted, no_counts}
 use Rattle.naim_loader.specs.Rows.{Kept}
+use Rattle.naim_loader.specs.Trails.{Lists, no_lists}
 
 -- The paging core's state; what is kept of each pool by PID; the disk, or, while a worker has it, how it was when
--- it was lent; whether the loader has it; the disk that the loader was made with; the peaks and counts.
+-- it was lent; whether the loader has it; the disk that the loader was made with; the peaks and counts; the lists of
+-- the trail.
 pub record Paged (T B D : Type 0) : Type 0 where
   pub core : Core
   pub kept : List (ℕ × Kept T B)
@@ -17,6 +19,7 @@ pub record Paged (T B D : Type 0) : Type 0 where
   pub home : Bool
   pub first : D
   pub counters : Counters
+  pub trail : Lists T
 
 -- what is kept of the pool p
 abbrev pub kept_at : {T B D : Type 0} → Paged T B D → ℕ → Option (Kept T B)
@@ -46,4 +49,4 @@ IsTrusted reach honest l = IsGood reach honest l.core.limit l.first
 
 -- no pools, the disk at home
 abbrev pub fresh : {T B D : Type 0} → ℕ → ℕ → D → Paged T B D
-fresh limit workers d = record { core = start limit workers; kept = []; disk = d; home = true; first = d; counters = no_counts }
+fresh limit workers d = record { core = start limit workers; kept = []; disk = d; home = true; first = d; counters = no_counts; trail = no_lists }

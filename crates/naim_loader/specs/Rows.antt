@@ -2,6 +2,7 @@
 use Rattle.std.specs.Prelude.{◌≡◌, ℕ, ◌≤◌, cond, nat_eq, List, map, length, Option, Some, None, slice_get}
 use Rattle.std.specs.List.{IsDistinct}
 use Rattle.std.specs.Map.{keys_of, lookup}
+use Rattle.std.specs.declared.snapshot.Snapshot.{Snapshot}
 use Rattle.naim_loader.specs.declared.table.Entry.{Entry}
 use Rattle.naim_loader.specs.declared.table.Lying.{Lying}
 
@@ -38,3 +39,9 @@ pub record Puts {T B : Type 0} (old new : List (ℕ × Entry T B)) (p : ℕ) (bo
 pub record Renews {T B : Type 0} (old new : List (ℕ × Entry T B)) (p : ℕ) (entry : Option (Entry T B)) : Type 0 where
   pub found : (q : ℕ) → lookup (nat_eq q) new ≡ cond (nat_eq p q) entry (lookup (nat_eq q) old)
   pub differ : IsDistinct nat_eq (keys_of new)
+
+-- the entry of p has that body and that value, and its brief; nothing else has changed
+pub record Resets {T B : Type 0} (old new : List (ℕ × Entry T B)) (p : ℕ) (body : Lying T) (value : Snapshot T) : Type 0 where
+  pub entry : Entry T B
+  pub at : lookup (nat_eq p) old ≡ Some entry
+  pub renews : Renews old new p (Some (record { body = body; value = value; brief = entry.brief }))

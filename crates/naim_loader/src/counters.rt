@@ -1,8 +1,8 @@
 //! Peaks and counts, and the one way to an event.
-ghost use Rattle.std.specs.Prelude.{◌≡◌, length, MatchResult};
+ghost use Rattle.std.specs.Prelude.{◌≡◌, length, IfErr, IfOk, MatchResult};
 ghost use Rattle.naim_core.specs.Sound.{IsSound, RecordsApart};
 ghost use Rattle.naim_core.specs.Steps.{Follows, NamesWorker, step_of};
-ghost use Rattle.naim_loader.specs.Counting.{counted, is_compact_end, is_offload_end, is_reload_end, one_more};
+ghost use Rattle.naim_loader.specs.Counting.{Refused, Stepped, counted, is_compact_end, is_offload_end, is_reload_end, one_more};
 
 use naim_core::{CoreState, Event, Refusal};
 
@@ -56,6 +56,8 @@ pub(crate) fn step(
     ensures apart { RecordsApart core.new }
     ensures limit { core.new.limit ≡ core.old.limit }
     ensures workers { length core.new.hands ≡ length core.old.hands }
+    ensures taken { IfOk result (λ _. Stepped core.old event core.new counters.old counters.new) }
+    ensures refused { IfErr result (λ r. Refused core.old event r core.new counters.old counters.new) }
 {
     let compacts = matches!(event, Event::CompactEnd { .. });
     let offloads = matches!(event, Event::OffloadEnd { .. });

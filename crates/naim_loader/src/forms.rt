@@ -1,7 +1,10 @@
 //! What is handed in and out: new values, pins and moves, and the answers that carry them.
-ghost use Rattle.std.specs.Prelude.{◌≡◌, length};
+ghost use Rattle.std.specs.Prelude.{◌≡◌, length, true, IfSome};
+ghost use Rattle.std.specs.Arc.{arc_value};
+ghost use Rattle.naim_loader.specs.Calls.{disk_of};
 ghost use Rattle.naim_loader.specs.Drafts.{draft_value, draft_form, IsDraft};
 ghost use Rattle.naim_loader.specs.Forms.{LiesIn};
+ghost use Rattle.naim_loader.specs.Moves.{IsPinWith, LiesWith, is_reload, pid_of};
 
 use crate::table::Lying;
 use naim_core::Form;
@@ -169,5 +172,44 @@ impl<T: Poolable> Draft<T> {
             }
             Draft::Packed { bytes, value, .. } => (Lying::Packed(bytes), value),
         }
+    }
+}
+
+impl<T: Drop, D> Move<T, D> {
+    /// The pool that is reloaded, and the disk where it came from there.
+    pub(crate) fn into_reload(self) -> (u32, Option<D>)
+        requires { is_reload self ≡ true }
+        ensures pid { result.0 ≡ pid_of self }
+        ensures disk { result.1 ≡ disk_of self }
+    {
+        match self {
+            Move::FromBytes { pid, bytes: _ } => (pid, None),
+            Move::FromDisk {
+                pid,
+                filed: _,
+                charge: _,
+                disk,
+            } => (pid, Some(disk)),
+            _ => unreachable!(),
+        }
+    }
+}
+
+/// A body that was reloaded: how it lies in the pool, and the pin that has it or a second share.
+pub(crate) fn spread<T>(
+    pid: u32,
+    body: Arc<T, Global>,
+    again: Option<Arc<T, Global>>,
+) -> (Lying<T>, Pin<T>)
+    requires { IfSome again (λ a. arc_value a ≡ arc_value body) }
+    ensures lies { LiesWith again result.0 (arc_value body) }
+    ensures pin { IsPinWith again pid (arc_value body) result.1 }
+{
+    match again {
+        Some(again) => {
+            let pin = ReadPin { pid, body: again };
+            (Lying::Whole(body), Pin::Read(pin))
+        }
+        None => (Lying::Out, Pin::Write(WritePin { pid, body })),
     }
 }

@@ -5,6 +5,7 @@ mod counters;
 mod forms;
 mod home;
 mod loader;
+mod noted;
 mod table;
 
 pub use counters::Counters;

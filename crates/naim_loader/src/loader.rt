@@ -5,12 +5,20 @@ ghost use Rattle.naim_core.specs.State.{pool_at, view_of};
 ghost use Rattle.naim_loader.specs.Calls.{brief_at};
 ghost use Rattle.naim_loader.specs.Paged.{fresh, kept_at};
 
+mod evicts;
+mod fails;
 mod inserts;
+mod moves;
 mod reads;
+mod reloads;
+mod removes;
 mod unpins;
+mod waves;
+mod writes;
 
 use crate::counters::Counters;
 use crate::home::Home;
+use crate::noted::Noted;
 use crate::table::Table;
 use naim_core::{CoreState, Failure, PoolView};
 use outside::Disk;
@@ -29,6 +37,7 @@ pub struct Loader<T: Poolable, B, D: Disk> {
     disk: Home<D>,
     first: Snapshot<D>,
     counters: Counters,
+    trail: Noted<T>,
 }
 
 impl<T: Poolable, B, D: Disk> Model for Loader<T, B, D> {
@@ -40,7 +49,7 @@ impl<T: Poolable, B, D: Disk> Model for Loader<T, B, D> {
     ghost use Rattle.naim_loader.specs.Rows.{kept_in};
     ghost use Rattle.naim_loader.specs.Whole.{IsWhole};
 
-    ghost view = { λ l. record { core = l.core; kept = kept_in l.table; disk = told l.disk; home = is_home l.disk; first = l.first.value; counters = l.counters } };
+    ghost view = { λ l. record { core = l.core; kept = kept_in l.table; disk = told l.disk; home = is_home l.disk; first = l.first.value; counters = l.counters; trail = l.trail.lists } };
 
     ghost invariant = { λ l. IsWhole T.charge_of T.encoding T.is_value D.bytes D.reach D.honest l.limit l.core l.table l.disk l.first.value l.counters };
 }
@@ -77,6 +86,7 @@ impl<T: Poolable + Drop, B: Drop, D: Disk + Drop> Loader<T, B, D> {
             disk: Home::In(disk),
             first,
             counters: Counters::NONE,
+            trail: Noted::picked(),
         })
     }
 
@@ -122,7 +132,7 @@ impl<T: Poolable + Drop, B: Drop, D: Disk + Drop> Loader<T, B, D> {
     }
 
     /// Whether a failure is kept.
-    fn is_stopped(&self) -> bool
+    pub(super) fn is_stopped(&self) -> bool
         ensures kept { result ≡ is_some self.now.core.failure }
         ensures sound { IsSound self.now.core }
     {

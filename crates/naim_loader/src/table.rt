@@ -1,7 +1,7 @@
 //! What is kept of each pool, by PID.
 ghost use Rattle.std.specs.Prelude.{◌≡◌, ◌<◌, [], length, nat_eq, Some, None, IsSome, IfOk, MatchOption};
 ghost use Rattle.std.specs.Map.{lookup};
-ghost use Rattle.naim_loader.specs.Rows.{Puts, Renews};
+ghost use Rattle.naim_loader.specs.Rows.{Puts, Renews, Resets};
 
 use repository::Filed;
 use std::alloc::{AllocError, Global};
@@ -99,6 +99,17 @@ impl<T: Drop, B: Drop> Table<T, B> {
         mem::replace(&mut row.1.body, body)
     }
 
+    /// Puts another body and value in the place of those that are there. Constant time.
+    pub(crate) fn reset(&mut self, pid: u32, body: Lying<T>, value: Snapshot<T>)
+        requires { IsSome (lookup (nat_eq pid) self.old) }
+        ensures { Resets self.old self.new pid body value }
+    {
+        let slot = self.index[pid as usize].unwrap();
+        let row = &mut self.rows[slot as usize];
+        row.1.body = body;
+        row.1.value = value;
+    }
+
     /// Puts another entry in the place of the one that is there. Constant time.
     pub(crate) fn renew(&mut self, pid: u32, entry: Entry<T, B>)
         requires { IsSome (lookup (nat_eq pid) self.old) }
@@ -107,5 +118,19 @@ impl<T: Drop, B: Drop> Table<T, B> {
         let slot = self.index[pid as usize].unwrap();
         let row = &mut self.rows[slot as usize];
         row.1 = entry;
+    }
+
+    /// Takes the entry of a PID out. The last row takes its place. Constant time.
+    pub(crate) fn remove(&mut self, pid: u32)
+        requires { IsSome (lookup (nat_eq pid) self.old) }
+        ensures { Renews self.old self.new pid None }
+    {
+        let slot = self.index[pid as usize].unwrap();
+        let _ = self.rows.swap_remove(slot as usize);
+        self.index[pid as usize] = None;
+        let Some(row) = self.rows.get(slot as usize) else {
+            return;
+        };
+        self.index[row.0 as usize] = Some(slot);
     }
 }

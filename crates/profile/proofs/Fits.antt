@@ -1,5 +1,5 @@
 -- Which line of a text is the first that doesn't fit.
-use Rattle.std.proofs.Common.{◌≡◌, ℕ, suc, ◌+◌, ◌<◌, List, [], ◌∷◌, ◌++◌, Some, refl, sym, ap, ◌∙◌, subst, length, map, append_assoc, append-nil, min, inl, inr, ◌⊎◌, arith}
+use Rattle.std.proofs.Common.{◌≡◌, ℕ, suc, ◌+◌, List, [], ◌∷◌, ◌++◌, Some, refl, sym, ap, ◌∙◌, length, map, append_assoc, min, inl, inr, ◌⊎◌, arith}
 use Rattle.std.specs.Prelude.{codes}
 use Rattle.std.specs.Option.{option_map}
 use Rattle.std.specs.List.{AllByRecursion}
@@ -8,21 +8,21 @@ use Rattle.text_lines.specs.Feeds.{HasNoFeed}
 use Rattle.text_lines.proofs.Plain.{plain_no_feed, join_no_feed, same_line, no_line}
 use Rattle.profile.specs.Counts.{Profiled}
 use Rattle.profile.specs.Names.{Names}
-use Rattle.profile.specs.Texts.{Line, IsLine, line_bytes, lines_text, text, set_by, set_by_all, ended, line_number, Begins, DoesNotFit, IsTextOf}
+use Rattle.profile.specs.Texts.{Line, IsLine, line_bytes, lines_text, text, set_by, set_by_all, ended, line_number, Begins, DoesNotFit}
 use Rattle.profile.specs.Reading.{IsReadAs, SoFar, behind_first}
 use Rattle.profile.proofs.Lines.{no_feed, not_end}
 
 -- the last line
-abbrev tail : List ℕ
+abbrev pub tail : List ℕ
 tail = codes "end" ++ 10 ∷ []
 
-end_feed : HasNoFeed (codes "end")
+pub end_feed : HasNoFeed (codes "end")
 end_feed = plain_no_feed (codes "end") [] refl tt
 
 first_feed : HasNoFeed (codes "profile 1")
 first_feed = join_no_feed (codes "profile" ∷ codes "1" ∷ []) (refl, (refl, tt))
 
-split : (l : Line) (ls : List Line) (more : List ℕ) → lines_text (l ∷ ls) ++ more ≡ line_bytes l ++ 10 ∷ (lines_text ls ++ more)
+pub split : (l : Line) (ls : List Line) (more : List ℕ) → lines_text (l ∷ ls) ++ more ≡ line_bytes l ++ 10 ∷ (lines_text ls ++ more)
 split l ls more = append_assoc (line_bytes l) (10 ∷ lines_text ls) more
 
 abbrev IsSomeLine : List ℕ → Type 0
@@ -96,10 +96,10 @@ feeds_snoc [] a = (end_feed, tt)
 feeds_snoc (x ∷ xs) a = (a.0, feeds_snoc xs a.1)
 
 -- the same first line on both sides
-strip : (a b : List ℕ) → behind_first a ≡ behind_first b → a ≡ b
+pub strip : (a b : List ℕ) → behind_first a ≡ behind_first b → a ≡ b
 strip a b e = (same_line (codes "profile 1") (codes "profile 1") a b first_feed first_feed e).1
 
-onto_line : (xs line more : List ℕ) → (xs ++ (line ++ 10 ∷ [])) ++ more ≡ xs ++ (line ++ 10 ∷ more)
+pub onto_line : (xs line more : List ℕ) → (xs ++ (line ++ 10 ∷ [])) ++ more ≡ xs ++ (line ++ 10 ∷ more)
 onto_line xs line more = append_assoc xs (line ++ 10 ∷ []) more ∙ ap (λ (t : List ℕ). xs ++ t) (append_assoc line (10 ∷ []) more)
 
 -- a text that begins with the lines read and one more

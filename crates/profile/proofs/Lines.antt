@@ -1,12 +1,11 @@
 -- Lines and their words.
-use Rattle.std.proofs.Common.{◌≡◌, ℕ, ◌^◌, ◌<◌, List, [], ◌∷◌, ◌++◌, refl, sym, ap, ◌∙◌, subst}
+use Rattle.std.proofs.Common.{◌≡◌, ℕ, List, [], ◌∷◌, refl, sym, ap, ◌∙◌}
 use Rattle.std.specs.Prelude.{codes}
-use Rattle.std.specs.List.{AllByRecursion, join_with_byte}
-use Rattle.hlo_num.specs.Name.{IsName}
+use Rattle.std.specs.List.{join_with_byte}
 use Rattle.text_lines.specs.Feeds.{HasNoFeed}
 use Rattle.text_lines.specs.Words.{words_of}
-use Rattle.text_lines.proofs.Plain.{IsPlain, ArePlain, decimal_plain, name_plain, join_words, words_joined, join_no_feed}
-use Rattle.profile.specs.Texts.{Line, Entry, Site, IsLine, line_words, line_bytes, lines_text}
+use Rattle.text_lines.proofs.Plain.{ArePlain, decimal_plain, name_plain, join_words, words_joined, join_no_feed}
+use Rattle.profile.specs.Texts.{Line, Entry, Site, IsLine, line_words, line_bytes}
 
 words_plain : (l : Line) → IsLine l → ArePlain (line_words l)
 words_plain (Entry n c) h = (refl, (name_plain n (h.0).1, (decimal_plain c h.1, tt)))

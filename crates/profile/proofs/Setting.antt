@@ -1,7 +1,7 @@
 -- A count of a name that is there is set in its place.
-use Rattle.std.proofs.Common.{◌≡◌, ℕ, zero, suc, List, [], ◌∷◌, Option, Some, None, nat_eq, position, refl, sym, ap, ◌∙◌, subst}
+use Rattle.std.proofs.Common.{◌≡◌, ℕ, zero, suc, List, [], ◌∷◌, Option, Some, nat_eq, position, refl, sym, ap, ◌∙◌}
 use Rattle.std.specs.List.{slice_get}
-use Rattle.std.specs.Map.{keys_of, values_of, lookup}
+use Rattle.std.specs.Map.{keys_of, values_of}
 use Rattle.std.specs.Option.{option_copied_mut}
 use Rattle.std.proofs.Common.{MutBor}
 use Rattle.indexmap.specs.IndexMap.{insert_entry}

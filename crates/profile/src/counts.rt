@@ -102,6 +102,17 @@ impl Profile {
             None => unreachable!(),
         }
     }
+
+    /// The names with their counts.
+    pub(crate) fn names(&self) -> &IndexMap<Name, Tally>
+        requires { is_some self.now ≡ true }
+        ensures { self.now ≡ Some result.now.entries }
+    {
+        match &self.names {
+            Some(names) => names,
+            None => unreachable!(),
+        }
+    }
 }
 
 fn set_entry_in(

@@ -6,8 +6,12 @@ mod counts;
 mod fault;
 mod line;
 mod reading;
+mod scaling;
 mod tally;
+mod writing;
 
 pub use counts::Profile;
 pub use fault::ProfFault;
 pub use reading::read;
+pub use scaling::scale;
+pub use writing::write;

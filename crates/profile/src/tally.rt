@@ -1,5 +1,8 @@
 //! What is counted of one name.
-ghost use Rattle.std.specs.Prelude.{◌≡◌, [], OnOk, OnErr, IfErr, nat_eq};
+ghost use Rattle.std.specs.Prelude.{◌≡◌, [], OnOk, OnErr, IfOk, IfErr, nat_eq};
+ghost use Rattle.std.specs.List.{IsDistinct};
+ghost use Rattle.std.specs.List.Sorted.{IsNonDecreasingBy, IsPermutation};
+ghost use Rattle.std.specs.Map.{keys_of};
 ghost use Rattle.indexmap.specs.IndexMap.{insert_entry};
 ghost use Rattle.profile.specs.Names.{nothing, site_of};
 
@@ -64,5 +67,19 @@ impl Tally {
             Ok(_) => Ok(()),
             Err(_) => Err(AllocError),
         }
+    }
+    /// The call sites with their counts, by rising number. It takes memory for them, and time in proportion to their number
+    /// by its logarithm.
+    pub(crate) fn sites_by_number(&self, alloc: Global) -> Result<Vec<(u32, u32)>, AllocError>
+        ensures each { IfOk result (λ v. IsPermutation self.now.sites v.items) }
+        ensures rising { IfOk result (λ v. IsNonDecreasingBy (λ s. s.0) v.items) }
+        ensures distinct { IsDistinct nat_eq (keys_of self.now.sites) }
+    {
+        let mut sites = Vec::with_capacity(alloc, self.sites.len())?;
+        for (k, count) in self.sites.iter() {
+            sites.push((*k, *count))?;
+        }
+        sites.sort_unstable_by_key(|site| site.0);
+        Ok(sites)
     }
 }

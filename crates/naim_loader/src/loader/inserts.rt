@@ -1,16 +1,16 @@
 //! New pools.
 ghost use Rattle.std.specs.Prelude.{◌≡◌, ◌<◌, length, None};
 ghost use Rattle.naim_core.specs.Sound.{IsSound};
-ghost use Rattle.naim_core.specs.declared.event.Failure.TheVariants as failure;
-ghost use Rattle.naim_loader.specs.Calls.{AnswersInsert, Fails};
+ghost use Rattle.naim_loader.specs.Calls.{AnswersInsert};
 ghost use Rattle.naim_loader.specs.Drafts.{IsDraft};
 ghost use Rattle.naim_loader.specs.Paged.{kept_at};
 
 use crate::counters::step;
 use crate::forms::{Draft, Put};
 use crate::loader::Loader;
+use crate::noted::Noted;
 use crate::table::Entry;
-use naim_core::{Event, Failure, Refusal};
+use naim_core::{Event, Refusal};
 use outside::Disk;
 use pool_laws::Poolable;
 
@@ -38,6 +38,7 @@ impl<T: Poolable + Drop, B: Drop, D: Disk + Drop> Loader<T, B, D> {
             Ok(()) => {
                 let (body, value) = draft.into_parts();
                 self.table.add(pid, Entry { body, value, brief });
+                self.trail = Noted::after(&self.trail, &pid);
                 Put::Done
             }
             Err(refusal) => match refusal {
@@ -47,24 +48,11 @@ impl<T: Poolable + Drop, B: Drop, D: Disk + Drop> Loader<T, B, D> {
                     brief,
                 },
                 Refusal::TooSmall(need) => {
-                    let limit = self.refuse(pid, need);
+                    let limit = self.refuse(0, pid, need);
                     Put::TooSmall { pid, need, limit }
                 }
                 _ => unreachable!(),
             },
         }
-    }
-
-    /// Keeps it as the failure that a compact spelling is longer than the limit, which it tells.
-    fn refuse(&mut self, pid: u32, need: u32) -> u64
-        ensures limit { result ≡ self.old.core.limit }
-        ensures failed { Fails self.old 0 (failure.TooSmall pid need result) self.new }
-        ensures sound { IsSound self.new.core }
-    {
-        let limit = self.limit;
-        let failure = Failure::TooSmall { pid, need, limit };
-        let event = Event::Fail { worker: 0, failure };
-        let _ = step(&mut self.core, &mut self.counters, event);
-        limit
     }
 }

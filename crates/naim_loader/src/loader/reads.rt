@@ -52,7 +52,13 @@ impl<T: Poolable + Drop, B: Drop, D: Disk + Drop> Loader<T, B, D> {
     }
 
     /// Begins to bring a pool back.
-    fn begin_reload(&mut self, worker: u32, pid: u32, mode: Mode, charge: u64) -> PinAnswer<T, D>
+    pub(super) fn begin_reload(
+        &mut self,
+        worker: u32,
+        pid: u32,
+        mode: Mode,
+        charge: u64,
+    ) -> PinAnswer<T, D>
         requires running { self.old.core.failure ≡ None }
         requires worker { worker < length self.old.core.hands }
         requires pool { (x : PoolData) × (pool_at self.old.core.pools pid ≡ Some x) × (is_away x.stage ≡ true) × (charge ≡ x.e) }

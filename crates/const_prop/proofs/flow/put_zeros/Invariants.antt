@@ -1,7 +1,10 @@
-use Rattle.std.proofs.Common.{◌≡◌, ℕ, ◌<◌, get_or}
-use Rattle.std.specs.Prelude.{None}
+use Rattle.std.proofs.Common.{◌≡◌, length}
 use Rattle.const_prop.specs.Flow.{zeros}
+use Rattle.const_prop.proofs.Placing.{KnowsTo}
 use Rattle.const_prop.proofs.flow.put_zeros.Given as goal
 
 abbrev pub invariant-loop-x : goal.invariant-loop-x
-invariant-loop-x l = (k : ℕ) → k < l.x → get_or l.table k None ≡ zeros l.params k
+invariant-loop-x l = record {
+  size : length l.table ≡ length l.fn.table;
+  done : KnowsTo l.x-index l.carried l.table (zeros l.params);
+}

@@ -1,7 +1,7 @@
 use Rattle.std.proofs.Common.{ap, ◌∙◌}
 use Rattle.std.specs.Option.{option_map}
 use Rattle.profile.specs.Names.{with_entry, with_site}
-use Rattle.profile.specs.Texts.{Line, Entry, Site}
+use Rattle.profile.specs.Texts.{Entry, Site}
 use Rattle.profile.proofs.Lines.{spelled, taken_apart}
 use Rattle.profile.proofs.reading.take_line.Goals as goal
 

@@ -1,4 +1,4 @@
-use Rattle.std.proofs.Common.{◌*◌, Some, Err, refl, sym, ap, subst, ◌∙◌}
+use Rattle.std.proofs.Common.{◌*◌, arith, length, Some, Err, refl, sym, ap, subst, ◌∙◌}
 use Rattle.std.specs.Prelude.{option_map, is_none, if◌then◌else◌}
 use Rattle.repository.specs.Record.{HasBytes}
 use Rattle.repository.specs.Filing.{record_of}
@@ -11,6 +11,7 @@ use Rattle.naim_loader.specs.Counting.{Stepped}
 use Rattle.naim_loader.specs.Forms.{is_filed}
 use Rattle.naim_loader.specs.Home.{told}
 use Rattle.naim_loader.specs.Paged.{IsGood}
+use Rattle.naim_loader.proofs.Evictions.{place_within}
 use Rattle.naim_loader.proofs.Wholes.{stepped, whole_same, there}
 use Rattle.naim_loader.proofs.Views.{kept_lookup, same_view}
 use Rattle.naim_loader.specs.Rows.{kept_of}
@@ -112,6 +113,7 @@ returns-in-Stored-clause-answer g c =
     let l = c.self.invariant.limit_is in
     answers_stored g.T.Poolable.charge_of g.T.Poolable.encoding g.D.Disk.bytes g.D.Disk.reach g.D.Disk.honest c.args.self.now _ w p m c.in-Stored.filed c.args.charge c.lend-disk.result k.0.value c.step.new.core c.step.new.counters _ _ _ c.self.view_is t
     c.in-Stored.ensures.kept c.lend-disk.ensures.same home content (both.1 ∙ ap (λ z. record_of (p * z) (g.T.Poolable.encoding k.0.value)) (sym l)) (c.requires.pool.3 ∙ k.0.charge_is) c.lend-disk.ensures.disk
+    (place_within p s.limit (length (g.T.Poolable.encoding k.0.value)) k.0.below (let short = (c.self.invariant.sound.forms_fit p x at).within in let long = k.0.length_is in omega arith))
     (λ good. subst (λ z. HasBytes (g.D.Disk.bytes z) (p * s.limit) (g.T.Poolable.encoding k.0.value)) (sym c.lend-disk.ensures.disk)
     (subst (λ z. HasBytes (g.D.Disk.bytes (told c.self.inside.disk)) (p * z) (g.T.Poolable.encoding k.0.value)) (sym l)
     (k.0.filed (subst (λ z. IsGood g.D.Disk.reach g.D.Disk.honest z c.self.inside.first.value) l good) (ap is_filed both.0))))

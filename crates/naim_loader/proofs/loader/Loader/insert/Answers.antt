@@ -40,9 +40,9 @@ returns-in-Ok-clause-answer g c =
     let t : Stepped s (event.Insert p f e n) c.step.new.core c.self.inside.counters c.step.new.counters =
     stepped s (event.Insert p f e n) c.step.new.core c.self.inside.counters c.step.new.counters c.in-Ok.ensures.means c.step.ensures.sound c.step.ensures.apart c.step.ensures.limit c.step.ensures.workers c.in-Ok.ensures.counted in
     inserted_view g.T.Poolable.charge_of g.T.Poolable.encoding c.args.self.now _ c.self.inside.table c.add.new.self p d c.args.brief
-    (record { body = c.into_parts-body.result.0; value = c.into_parts-body.result.1; brief = c.args.brief }) f e n c.step.new.core c.step.new.counters c.self.view_is refl
+    (record { body = c.into_parts-body.result.0; value = c.into_parts-body.result.1; brief = c.args.brief }) f e n c.step.new.core c.step.new.counters _ c.self.view_is refl
     (c.self.invariant.home none ∙ ap is_none (sym (insert_did s c.step.new.core p f e n none t.step).disk_is)) t c.add.ensures c.form-form.ensures c.charge-e.ensures c.compact_len-c.ensures.len
-    (ap (λ z. record { value = z; brief = c.args.brief }) c.into_parts-body.ensures.value)
+    (ap (λ z. record { value = z; brief = c.args.brief }) c.into_parts-body.ensures.value) c.after.ensures
 
 pub invariant_of-self-in-NeedsRoom : goal.invariant_of-self-in-NeedsRoom
 invariant_of-self-in-NeedsRoom g c =

@@ -1,0 +1,10 @@
+use Rattle.std.proofs.Common.{◌≡◌, length}
+use Rattle.std.specs.Prelude.{None}
+use Rattle.const_prop.proofs.Placing.{KnowsTo}
+use Rattle.const_prop.proofs.flow.forget.Given as goal
+
+abbrev pub invariant-loop-x : goal.invariant-loop-x
+invariant-loop-x l = record {
+  size : length l.table ≡ length l.fn.table;
+  done : KnowsTo l.x-index l.carried l.table ((λ x. None));
+}

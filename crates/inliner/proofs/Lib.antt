@@ -1,0 +1,6 @@
+mod Bounds
+mod Counts
+mod Owned
+mod Placing
+mod Spliced
+mod Within
