@@ -14,16 +14,15 @@ use Rattle.linker.specs.Linking.{refusal}
 use Rattle.std.proofs.Common.{None}
 use Rattle.outside.specs.Told.{Told}
 use Rattle.sym_tables.specs.Table.{Table}
-use Rattle.hlo_cmd.specs.Check.{AsksCheck, CheckPromise, IsCheckStatus}
+use Rattle.hlo_cmd.specs.Check.{AsksCheck, CheckPromise}
 use Rattle.hlo_cmd.specs.Messages.{program_refusal, refusal_line, refusal_status, words_refusal}
-use Rattle.hlo_cmd.specs.Modules.{AreAccepted, OfAsked}
+use Rattle.hlo_cmd.specs.Modules.{AreAccepted}
 use Rattle.hlo_cmd.proofs.Verdicts.{by_acceptance, by_fault, by_words, not_both, want_is_memory}
 
 same_files : (words f g : List (List ℕ)) → AsksCheck words f → AsksCheck words g → f ≡ g
 same_files words f g a b = ap (λ (s : CheckSettings). s.files) (same_check words _ _ a b)
 
 module _ (words : List (List ℕ)) (tells : List ℕ → Told) (before after : List ℕ → ℕ) (Said : List ℕ → Type 0) (status : ℕ) where
-
   pub check_words : (syms : Table) (fault : WordsFault) → status ≡ refusal_status (words_refusal fault) → Said (refusal_line syms (words_refusal fault))
       → (fault ≡ words_fault.Usage → (s : CheckSettings) → IsCheckSettings words s → ⊥) → CheckPromise words tells before after Said status
   check_words syms words_fault.Usage e said none = record {
@@ -52,7 +51,8 @@ module _ (words : List (List ℕ)) (tells : List ℕ → Told) (before after : L
     not_passed (inr (inl e)) zero = not_both status 5 0 e zero refl
     not_passed (inr (inr e)) zero = not_both status 10 0 e zero refl
 
-    pub check_fault : (syms : Table) (fault : ProgramFault) → status ≡ refusal_status (program_refusal fault) → Said (refusal_line syms (program_refusal fault))
+    pub check_fault : (syms : Table) (fault : ProgramFault) → status ≡ refusal_status (program_refusal fault)
+        → Said (refusal_line syms (program_refusal fault))
         → IsProgramCause fault files tells before after syms → (AreQuiet before after files → IsUnread fault → ⊥)
         → ((names : Table) → AreWellFormedTexts tells files names → refusal names ≡ None → AreQuiet before after files → IsWant fault)
         → CheckPromise words tells before after Said status
@@ -62,7 +62,8 @@ module _ (words : List (List ℕ)) (tells : List ℕ → Told) (before after : L
       modules = by_fault (AsksCheck words) tells before after Said status (same_files words) files asked syms fault e said cause reads;
       complete = λ others names also formed links quiet.
           let at = same_files words others files also asked in
-          inr (e ∙ want_is_memory fault (complete names (subst (λ l. AreWellFormedTexts tells l names) at formed) links (subst (AreQuiet before after) at quiet)));
+          inr (e ∙ want_is_memory fault
+          (complete names (subst (λ l. AreWellFormedTexts tells l names) at formed) links (subst (AreQuiet before after) at quiet)));
     }
 
     pub check_passes : status ≡ 0 → Said [] → AreAccepted tells files → (AreRefused tells files → ⊥) → CheckPromise words tells before after Said status

@@ -1,5 +1,5 @@
 -- How a program ended: its word as it is written, and its status.
-use Rattle.std.proofs.Common.{◌≡◌, ℕ, ◌<◌, ◌≤◌, ◌+◌, ◌-◌, ◌^◌, false, [], ◌∷◌, ◌++◌, refl, sym, ◌∙◌, ap, arith, nat_lt}
+use Rattle.std.proofs.Common.{◌≡◌, ℕ, ◌<◌, ◌+◌, ◌-◌, ◌^◌, false, [], ◌∷◌, ◌++◌, refl, sym, ◌∙◌, ap, arith, nat_lt}
 use Rattle.std.specs.Prelude.{codes, decimal, if◌then◌else◌}
 use Rattle.std.proofs.lemmas.Bool.{le-ltb}
 use Rattle.il_core.specs.World as world
@@ -9,7 +9,8 @@ use Rattle.il_run.specs.Machine.{ending_of}
 use Rattle.hlo_cmd.specs.Messages.{ending_status, signed_decimal}
 
 -- a word of at least 2^31, as it is written
-pub negative_exit : (w : ℕ) → 2147483647 < w → w < 2 ^ 32 → codes "hlo: exit -" ++ (decimal (4294967295 - w + 1) ++ 10 ∷ []) ≡ codes "hlo: exit " ++ (signed_decimal w ++ 10 ∷ [])
+pub negative_exit : (w : ℕ) → 2147483647 < w → w < 2 ^ 32
+    → codes "hlo: exit -" ++ (decimal (4294967295 - w + 1) ++ 10 ∷ []) ≡ codes "hlo: exit " ++ (signed_decimal w ++ 10 ∷ [])
 negative_exit w low high =
     let same : 4294967295 - w + 1 ≡ 2 ^ 32 - w = omega arith in
     let other : nat_lt w (2 ^ 31) ≡ false = le-ltb w (2 ^ 31) (omega arith) in

@@ -1,5 +1,5 @@
 -- Fronts of what is put out in pieces.
-use Rattle.std.proofs.Common.{◌≡◌, ℕ, zero, suc, ◌+◌, List, [], ◌∷◌, ◌++◌, length, take, Option, Some, None, Result, Ok, Err, refl, sym, ◌∙◌, ap, subst, inl, inr, append-nil}
+use Rattle.std.proofs.Common.{◌≡◌, ℕ, zero, suc, ◌+◌, List, [], ◌∷◌, ◌++◌, length, take, Option, Some, None, Result, Ok, Err, refl, sym, ap, subst, inl, inr, append-nil}
 use Rattle.std.specs.Io.KnownBytes.{Appends, Keeps}
 use Rattle.std.proofs.KnownBytes.{Appends-trans}
 use Rattle.std.proofs.Math.Seq.{take-append-add}
@@ -26,9 +26,11 @@ pub then_failed : (a b c : Option (List ℕ)) (k : ℕ) (xs ys : List ℕ) → A
 then_failed a b c k xs ys h g = (length xs + k, subst (Appends a c) (front_behind k xs ys) (Appends-trans a b c xs (take k ys) h g))
 
 -- what was said, where the bytes are the line
-pub says : {T E : Type 0} (before after : Option (List ℕ)) (old new : ℕ) (r : Result T E) (bytes line : List ℕ) → bytes ≡ line → TakesAll before after r bytes → HasCause old new r → Says before after old new line
+pub says : {T E : Type 0} (before after : Option (List ℕ)) (old new : ℕ) (r : Result T E) (bytes line : List ℕ) → bytes ≡ line
+    → TakesAll before after r bytes → HasCause old new r → Says before after old new line
 says before after old new (Ok x) bytes line e h cause = inl (subst (Appends before after) e h)
-says before after old new (Err f) bytes line e h cause = inr (record { rose = cause.failed; front = h.0; said = subst (λ l. Appends before after (take h.0 l)) e h.1 })
+says before after old new (Err f) bytes line e h cause = inr
+    (record { rose = cause.failed; front = h.0; said = subst (λ l. Appends before after (take h.0 l)) e h.1 })
 
 -- a whole piece, and then another one
 pub then_takes : {T E : Type 0} (a b c : Option (List ℕ)) (r : Result T E) (xs ys : List ℕ) → Appends a b xs → TakesAll b c r ys → TakesAll a c r (xs ++ ys)

@@ -1,5 +1,5 @@
 -- What `run` came to, and what it promises.
-use Rattle.std.proofs.Common.{◌≡◌, ℕ, ◌⊎◌, false, List, [], Option, Some, None, nat_eq, refl, sym, ◌∙◌, ap, subst, inl, inr}
+use Rattle.std.proofs.Common.{◌≡◌, ℕ, ◌⊎◌, false, List, Option, Some, None, nat_eq, refl, sym, ◌∙◌, ap, subst, inl, inr}
 use Rattle.std.specs.Io.KnownBytes.{Appends, Keeps}
 use Rattle.c_module.specs.Programs.{IsProgramOf}
 use Rattle.c_module.specs.Told.{AreQuiet, AreRefused, AreWellFormedTexts}
@@ -8,7 +8,6 @@ use Rattle.c_module.specs.declared.fault.FileFault.TheVariants as file_fault
 use Rattle.c_module.specs.declared.fault.ProgramFault.{ProgramFault}
 use Rattle.c_module.specs.declared.fault.ProgramFault.TheVariants.{File, Link, Memory}
 use Rattle.c_typed.specs.Linked.{c90_run}
-use Rattle.c_typed.specs.declared.function.TypedModule.{TypedModule}
 use Rattle.hlo_words.specs.declared.settings.RunSettings.{RunSettings}
 use Rattle.hlo_words.specs.declared.settings.WordsFault.{WordsFault}
 use Rattle.hlo_words.specs.declared.settings.WordsFault.TheVariants as words_fault
@@ -22,7 +21,6 @@ use Rattle.il_run.specs.declared.ending.RunFault.TheVariants as il_fault
 use Rattle.il_run.specs.Machine.{ending_of}
 use Rattle.il_run.specs.Run.{AsksFor, EndsAs, HasReason, IfTold, StopsWithin}
 use Rattle.linker.specs.Linking.{refusal}
-use Rattle.outside.specs.Faults.{Rose}
 use Rattle.outside.specs.Told.{Told}
 use Rattle.profile.specs.Counts.{flat_counts}
 use Rattle.std.proofs.Math.Seq.{take-length}
@@ -30,7 +28,7 @@ use Rattle.std.proofs.Common.{length}
 use Rattle.sym_tables.specs.Table.{Table}
 use Rattle.hlo_cmd.specs.Messages.{ending_line, ending_status, program_refusal, refusal_line, refusal_status, run_refusal, words_refusal}
 use Rattle.hlo_cmd.specs.Opt.{IsQuiet}
-use Rattle.hlo_cmd.specs.Run.{AsksRun, AsksRunOf, IsEndingStatus, MeansEnding, MeansWithin, OfAskedRun, RunPromise, RunsWithin}
+use Rattle.hlo_cmd.specs.Run.{AsksRun, AsksRunOf, IsEndingStatus, MeansEnding, MeansWithin, RunPromise, RunsWithin}
 use Rattle.hlo_cmd.proofs.Endings.{same_status}
 use Rattle.hlo_cmd.proofs.Opts.{not_quiet}
 use Rattle.hlo_cmd.proofs.Sames.{one_program}
@@ -52,7 +50,9 @@ not_ended status n e a b c (inl h) = not_both status n 0 e h a
 not_ended status n e a b c (inr (inl h)) = not_both status n 12 e h b
 not_ended status n e a b c (inr (inr h)) = not_both status n 13 e h c
 
-module _ (words : List (List ℕ)) (tells : List ℕ → Told) (shelf shelf_now : List ℕ → ℕ) (left left_now : Option (List ℕ)) (input input_now : ℕ) (before after : Option (List ℕ)) (out out_now : ℕ) (Said : List ℕ → Type 0) (status : ℕ) where
+module _ (words : List (List ℕ)) (tells : List ℕ → Told) (shelf shelf_now : List ℕ
+    → ℕ) (left left_now : Option (List ℕ)) (input input_now : ℕ) (before after : Option (List ℕ)) (out out_now : ℕ) (Said : List ℕ
+    → Type 0) (status : ℕ) where
   pub run_words : (syms : Table) (fault : WordsFault) → status ≡ refusal_status (words_refusal fault) → Said (refusal_line syms (words_refusal fault))
       → (fault ≡ words_fault.Usage → (s : RunSettings) → AsksRun words s.turns s.files → ⊥) → Keeps before after
       → RunPromise words tells shelf shelf_now left left_now input input_now before after out out_now Said status
@@ -63,8 +63,10 @@ module _ (words : List (List ℕ)) (tells : List ℕ → Told) (shelf shelf_now 
     no_input = λ eleven. not_both status 2 11 e eleven refl;
     front = inl kept;
     quiet = λ q. kept;
-    modules = by_words (AsksRunOf words) tells shelf shelf_now Said status syms words_fault.Usage e said (λ u files asked. none u (record { turns = asked.0; files = files }) asked.1);
-    complete = λ turns files names given output ending asked formed links told run quiet calm calm_out. absurd (none refl (record { turns = turns; files = files }) asked);
+    modules = by_words (AsksRunOf words) tells shelf shelf_now Said status syms words_fault.Usage e said
+        (λ u files asked. none u (record { turns = asked.0; files = files }) asked.1);
+    complete = λ turns files names given output ending asked formed links told run quiet calm calm_out. absurd
+        (none refl (record { turns = turns; files = files }) asked);
   }
   run_words syms words_fault.Memory e said none kept = record {
     known = inr (inr (inr (inr (inr (inl e)))));
@@ -80,7 +82,8 @@ module _ (words : List (List ℕ)) (tells : List ℕ → Told) (shelf shelf_now 
   module _ (turns : ℕ) (files : List (List ℕ)) (asked : AsksRun words turns files) where
     -- where it is so of these settings, it is so of all that the words say
     of_asked : (Q : ℕ → List (List ℕ) → Type 0) → Q turns files → (m : ℕ) (fs : List (List ℕ)) → AsksRun words m fs → Q m fs
-    of_asked Q h m fs also = subst (λ (s : RunSettings). Q s.turns s.files) (same_run words (record { turns = turns; files = files }) (record { turns = m; files = fs }) asked also) h
+    of_asked Q h m fs also = subst (λ (s : RunSettings). Q s.turns s.files)
+        (same_run words (record { turns = turns; files = files }) (record { turns = m; files = fs }) asked also) h
 
     fault_status : (fault : ProgramFault) → status ≡ refusal_status (program_refusal fault) → (status ≡ 3) ⊎ ((status ≡ 5) ⊎ (status ≡ 10))
     fault_status (File file (file_fault.NoModule fault)) e = inl e
@@ -89,7 +92,8 @@ module _ (words : List (List ℕ)) (tells : List ℕ → Told) (shelf shelf_now 
     fault_status (Link fault) e = inl e
     fault_status Memory e = inr (inr e)
 
-    isnt : {A : Type 0} (n : ℕ) → (status ≡ 3) ⊎ ((status ≡ 5) ⊎ (status ≡ 10)) → status ≡ n → nat_eq 3 n ≡ false → nat_eq 5 n ≡ false → nat_eq 10 n ≡ false → A
+    isnt : {A : Type 0} (n : ℕ) → (status ≡ 3) ⊎ ((status ≡ 5) ⊎ (status ≡ 10)) → status ≡ n → nat_eq 3 n ≡ false → nat_eq 5 n ≡ false
+        → nat_eq 10 n ≡ false → A
     isnt n (inl e) h a b c = not_both status 3 n e h a
     isnt n (inr (inl e)) h a b c = not_both status 5 n e h b
     isnt n (inr (inr e)) h a b c = not_both status 10 n e h c
@@ -118,14 +122,18 @@ module _ (words : List (List ℕ)) (tells : List ℕ → Told) (shelf shelf_now 
       modules = by_fault (AsksRunOf words) tells shelf shelf_now Said status (same_files words) files (turns, asked) syms fault e said cause reads;
       complete = λ m fs names given output ending also formed links told run quiet calm calm_out.
           let at = same_files words fs files (m, also) (turns, asked) in
-          inr (e ∙ want_is_memory fault (complete names (subst (λ l. AreWellFormedTexts tells l names) at formed) links (subst (AreQuiet shelf shelf_now) at quiet)));
+          inr (e ∙ want_is_memory fault
+          (complete names (subst (λ l. AreWellFormedTexts tells l names) at formed) links (subst (AreQuiet shelf shelf_now) at quiet)));
     }
 
     module _ (program : IlProgram) (syms : Table) (from : IsProgramOf flat_counts tells files program syms) (never : AreRefused tells files → ⊥) where
       -- what the program does, the modules mean
       within : IfTold left (StopsWithin program turns before after) → RunsWithin tells left before after files turns
       within h = record {
-        modules = from.modules; ts = from.ts; syms = syms; accepted = from.accepted;
+        modules = from.modules;
+        ts = from.ts;
+        syms = syms;
+        accepted = from.accepted;
         front = if_told (StopsWithin program turns before after) (MeansWithin from.ts syms turns before after) left
             (λ bytes stops. record { run = stops.run; is_run = sym (from.runs bytes turns) ∙ stops.is_run; gained = stops.gained }) h;
       }
@@ -141,7 +149,16 @@ module _ (words : List (List ℕ)) (tells : List ℕ → Told) (shelf shelf_now 
         known = inr (inr (inr (inr (inr (inr e)))));
         ended = λ h. not_ended status 11 e refl refl refl h;
         unwritten = λ six. not_both status 11 6 e six refl;
-        no_input = λ eleven. (rose, record { turns = turns; files = files; asked = asked; holds = record { program = program; syms = syms; from = from; wanted = wanted refl } }, said);
+        no_input = λ eleven. (
+          rose,
+          record {
+            turns = turns;
+            files = files;
+            asked = asked;
+            holds = record { program = program; syms = syms; from = from; wanted = wanted refl };
+          },
+          said,
+        );
         front = inr (record { turns = turns; files = files; asked = asked; holds = within stops });
         quiet = λ q. not_quiet status 11 e refl refl refl q;
         modules = by_acceptance (AsksRunOf words) tells shelf shelf_now Said status (same_files words) files (turns, asked) (inr (inr (inl e))) never;
@@ -190,8 +207,10 @@ module _ (words : List (List ℕ)) (tells : List ℕ → Told) (shelf shelf_now 
       isnt_quiet (inr (inr e)) q = not_quiet status 13 e refl refl refl q
 
       -- told modules have one run, whose ending this is
-      one_ending : (e : Ending) → IfTold left (EndsAs program turns e before after) → (names : Table) (given output : List ℕ) (d : Ending) → (formed : AreWellFormedTexts tells files names)
-          → left ≡ Some given → c90_run formed.ts names given turns ≡ Some (record { output = output; ending = ending_of d }) → ending_status e ≡ ending_status d
+      one_ending : (e : Ending) → IfTold left (EndsAs program turns e before after) → (names : Table) (given output : List ℕ) (d : Ending)
+          → (formed : AreWellFormedTexts tells files names)
+          → left ≡ Some given → c90_run formed.ts names given turns ≡ Some (record { output = output; ending = ending_of d })
+          → ending_status e ≡ ending_status d
       one_ending e ends names given output d formed told run =
           let h : EndsAs program turns e before after given = subst (λ l. IfTold l (EndsAs program turns e before after)) told ends in
           let one = one_program tells files from.modules from.ts syms names from.accepted.hold formed in
@@ -222,10 +241,18 @@ module _ (words : List (List ℕ)) (tells : List ℕ → Told) (shelf shelf_now 
             known = inl at;
             ended = λ h. record {
               ending = e;
-              came = record { turns = turns; files = files; asked = asked; holds = record {
-                modules = from.modules; ts = from.ts; syms = syms; accepted = from.accepted;
-                ends = if_told (EndsAs program turns e before after) (MeansEnding from.ts syms turns e before after) left (ending e) ends;
-              } };
+              came = record {
+                turns = turns;
+                files = files;
+                asked = asked;
+                holds = record {
+                  modules = from.modules;
+                  ts = from.ts;
+                  syms = syms;
+                  accepted = from.accepted;
+                  ends = if_told (EndsAs program turns e before after) (MeansEnding from.ts syms turns e before after) left (ending e) ends;
+                };
+              };
               status_is = is;
               said = said;
             };

@@ -21,7 +21,8 @@ use Rattle.outside.specs.Told.{Told}
 use Rattle.profile.specs.Counts.{flat_counts}
 use Rattle.sym_tables.specs.Table.{Table}
 use Rattle.hlo_cmd.specs.Messages.{print_refusal, program_refusal, refusal_line, refusal_status, words_refusal}
-use Rattle.hlo_cmd.specs.Opt.{AsksOpt, IsQuiet, OptPromise, report_of}
+use Rattle.hlo_cmd.specs.Modules.{OfAsked}
+use Rattle.hlo_cmd.specs.Opt.{AsksOpt, IsQuiet, OptPromise, Prints, PrintsFront, report_of}
 use Rattle.hlo_cmd.specs.Printing.{IsPrintCause}
 use Rattle.hlo_cmd.specs.declared.print.PrintFault.{PrintFault}
 use Rattle.hlo_cmd.specs.declared.print.PrintFault.TheVariants as print_fault
@@ -36,7 +37,8 @@ not_quiet status n e two three five (inl h) = not_both status n 2 e h two
 not_quiet status n e two three five (inr (inl h)) = not_both status n 3 e h three
 not_quiet status n e two three five (inr (inr h)) = not_both status n 5 e h five
 
-module _ (words : List (List ℕ)) (tells : List ℕ → Told) (shelf shelf_now : List ℕ → ℕ) (before after : Option (List ℕ)) (out out_now : ℕ) (Said : List ℕ → Type 0) (status : ℕ) where
+module _ (words : List (List ℕ)) (tells : List ℕ → Told) (shelf shelf_now : List ℕ → ℕ) (before after : Option (List ℕ)) (out out_now : ℕ) (Said : List ℕ
+    → Type 0) (status : ℕ) where
   pub opt_words : (syms : Table) (fault : WordsFault) → status ≡ refusal_status (words_refusal fault) → Said (refusal_line syms (words_refusal fault))
       → (fault ≡ words_fault.Usage → (files : List (List ℕ)) → AsksOpt words files → ⊥) → Keeps before after
       → OptPromise words tells shelf shelf_now before after out out_now Said status None
@@ -67,7 +69,8 @@ module _ (words : List (List ℕ)) (tells : List ℕ → Told) (shelf shelf_now 
     fault_status (Link fault) e = inl e
     fault_status Memory e = inr (inr e)
 
-    isnt : {A : Type 0} (n : ℕ) → (status ≡ 3) ⊎ ((status ≡ 5) ⊎ (status ≡ 10)) → status ≡ n → nat_eq 3 n ≡ false → nat_eq 5 n ≡ false → nat_eq 10 n ≡ false → A
+    isnt : {A : Type 0} (n : ℕ) → (status ≡ 3) ⊎ ((status ≡ 5) ⊎ (status ≡ 10)) → status ≡ n → nat_eq 3 n ≡ false → nat_eq 5 n ≡ false
+        → nat_eq 10 n ≡ false → A
     isnt n (inl e) h a b c = not_both status 3 n e h a
     isnt n (inr (inl e)) h a b c = not_both status 5 n e h b
     isnt n (inr (inr e)) h a b c = not_both status 10 n e h c
@@ -90,18 +93,26 @@ module _ (words : List (List ℕ)) (tells : List ℕ → Told) (shelf shelf_now 
       modules = by_fault (AsksOpt words) tells shelf shelf_now Said status (same_files words) files asked syms fault e said cause reads;
       complete = λ others names also formed links quiet calm.
           let at = same_files words others files also asked in
-          inr (e ∙ want_is_memory fault (complete names (subst (λ l. AreWellFormedTexts tells l names) at formed) links (subst (AreQuiet shelf shelf_now) at quiet)));
+          inr (e ∙ want_is_memory fault
+          (complete names (subst (λ l. AreWellFormedTexts tells l names) at formed) links (subst (AreQuiet shelf shelf_now) at quiet)));
     }
 
     module _ (program : IlProgram) (syms : Table) (from : IsProgramOf flat_counts tells files program syms) (never : AreRefused tells files → ⊥) where
+      a_front : ((k : ℕ) × Appends before after (take k (text program))) → OfAsked (AsksOpt words) (PrintsFront tells before after)
+      a_front h = record {
+        files = files;
+        asked = asked;
+        holds = record { program = program; syms = syms; from = from; front = h.0; printed = h.1 };
+      }
+
       pub opt_unprinted : (fault : PrintFault) → status ≡ refusal_status (print_refusal fault) → Said (refusal_line syms (print_refusal fault))
           → IsPrintCause fault out out_now → ((k : ℕ) × Appends before after (take k (text program)))
           → OptPromise words tells shelf shelf_now before after out out_now Said status None
       opt_unprinted print_fault.Output e said rose front = record {
         known = inr (inr (inr (inr (inl e))));
         printed = λ zero. not_both status 6 0 e zero refl;
-        unwritten = λ six. (rose, record { files = files; asked = asked; holds = record { program = program; syms = syms; from = from; front = front.0; printed = front.1 } }, said);
-        front = inr (record { files = files; asked = asked; holds = record { program = program; syms = syms; from = from; front = front.0; printed = front.1 } });
+        unwritten = λ six. (rose, a_front front, said);
+        front = inr (a_front front);
         quiet = λ q. not_quiet status 6 e refl refl refl q;
         modules = by_acceptance (AsksOpt words) tells shelf shelf_now Said status (same_files words) files asked (inr (inl e)) never;
         complete = λ others names also formed links quiet calm. absurd (calm rose);
@@ -110,7 +121,7 @@ module _ (words : List (List ℕ)) (tells : List ℕ → Told) (shelf shelf_now 
         known = inr (inr (inr (inr (inr e))));
         printed = λ zero. not_both status 10 0 e zero refl;
         unwritten = λ six. not_both status 10 6 e six refl;
-        front = inr (record { files = files; asked = asked; holds = record { program = program; syms = syms; from = from; front = front.0; printed = front.1 } });
+        front = inr (a_front front);
         quiet = λ q. not_quiet status 10 e refl refl refl q;
         modules = by_memory (AsksOpt words) tells shelf shelf_now Said status e said;
         complete = λ others names also formed links quiet calm. inr e;
@@ -118,20 +129,21 @@ module _ (words : List (List ℕ)) (tells : List ℕ → Told) (shelf shelf_now 
 
       pub opt_printed : (report : Report) → status ≡ 0 → Said [] → Appends before after (text program) → report ≡ report_of program
           → OptPromise words tells shelf shelf_now before after out out_now Said status (Some report)
-      opt_printed report e said printed reported = record {
-        known = inl e;
-        printed = λ zero. (record { files = files; asked = asked; holds = record { program = program; syms = syms; from = from; printed = printed; reported = reported } }, said);
-        unwritten = λ six. not_both status 0 6 e six refl;
-        front = inr (record { files = files; asked = asked; holds = record {
-          program = program; syms = syms; from = from; front = length (text program);
-          printed = subst (Appends before after) (sym (take-length (text program))) printed;
-        } });
-        quiet = λ q. not_quiet status 0 e refl refl refl q;
-        modules = by_acceptance (AsksOpt words) tells shelf shelf_now Said status (same_files words) files asked (inl e) never;
-        complete = λ others names also formed links quiet calm. inl e;
-      }
+      opt_printed report e said printed reported =
+          let whole : Prints tells before after report files = record { program = program; syms = syms; from = from; printed = printed; reported = reported } in
+          record {
+            known = inl e;
+            printed = λ zero. (record { files = files; asked = asked; holds = whole }, said);
+            unwritten = λ six. not_both status 0 6 e six refl;
+            front = inr (a_front (length (text program), subst (Appends before after) (sym (take-length (text program))) printed));
+            quiet = λ q. not_quiet status 0 e refl refl refl q;
+            modules = by_acceptance (AsksOpt words) tells shelf shelf_now Said status (same_files words) files asked (inl e) never;
+            complete = λ others names also formed links quiet calm. inl e;
+          }
 
 -- a report with the cost of a program's routines
-pub report_by : (report : Report) (n : ℕ) (rs : List RoutineParts) (p : IlProgram) → report ≡ record { charged_peak = 0; under_peak = 0; compactions = 0; offloads = 0; reloads = 0; cost_before = n; cost_after = n }
+pub report_by : (report : Report) (n : ℕ) (rs : List RoutineParts) (p : IlProgram)
+    → report ≡ record { charged_peak = 0; under_peak = 0; compactions = 0; offloads = 0; reloads = 0; cost_before = n; cost_after = n }
     → n ≡ cost rs → rs ≡ p.routines → report ≡ report_of p
-report_by report n rs p e f h = e ∙ ap (λ (m : ℕ). record { charged_peak = 0; under_peak = 0; compactions = 0; offloads = 0; reloads = 0; cost_before = m; cost_after = m }) (f ∙ ap cost h)
+report_by report n rs p e f h = e
+    ∙ ap (λ (m : ℕ). record { charged_peak = 0; under_peak = 0; compactions = 0; offloads = 0; reloads = 0; cost_before = m; cost_after = m }) (f ∙ ap cost h)

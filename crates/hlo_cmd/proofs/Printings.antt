@@ -25,7 +25,8 @@ has_row None s e = cc
 has_row (Some row) s e = refl
 
 -- so has each routine of a valid program
-pub have_rows : (rows : List ShapeRow) (rs : List RoutineParts) → AllByRecursion (λ r. shape_at rows r.pid ≡ Some (shape.Routine r.params r.value)) rs → AllByRecursion (HasRow rows) rs
+pub have_rows : (rows : List ShapeRow) (rs : List RoutineParts) → AllByRecursion (λ r. shape_at rows r.pid ≡ Some (shape.Routine r.params r.value)) rs
+    → AllByRecursion (HasRow rows) rs
 have_rows rows [] h = tt
 have_rows rows (r ∷ rs) (h, hs) = (has_row (found (λ row. row.pid) r.pid rows) (shape.Routine r.params r.value) h, have_rows rows rs hs)
 
@@ -50,11 +51,13 @@ module _ (rows : List ShapeRow) (rs : List RoutineParts) (k : ℕ) (r : RoutineP
       ∙ sym (flat_map-append (λ x. routine_text (name_at rows x.pid) x) (take (k + 1) rs) (drop (k + 1) rs))
       ∙ ap (routines_text rows) (take-append-drop (k + 1) rs)
 
-  pub next_taken : (a b c : Option (List ℕ)) → Appends a b (routines_text rows (take k rs)) → Appends b c (routine_text (name_at rows r.pid) r) → Appends a c (routines_text rows (take (k + 1) rs))
+  pub next_taken : (a b c : Option (List ℕ)) → Appends a b (routines_text rows (take k rs)) → Appends b c (routine_text (name_at rows r.pid) r)
+      → Appends a c (routines_text rows (take (k + 1) rs))
   unfolding before text_of
   next_taken a b c h g = subst (Appends a c) with_next (Appends-trans a b c (routines_text rows (take k rs)) (routine_text (name_at rows r.pid) r) h g)
 
-  pub next_failed : (a b c : Option (List ℕ)) → Appends a b (routines_text rows (take k rs)) → ((m : ℕ) × Appends b c (take m (routine_text (name_at rows r.pid) r)))
+  pub next_failed : (a b c : Option (List ℕ)) → Appends a b (routines_text rows (take k rs))
+      → ((m : ℕ) × Appends b c (take m (routine_text (name_at rows r.pid) r)))
       → (n : ℕ) × Appends a c (take n (routines_text rows rs))
   unfolding before text_of
   next_failed a b c h g =
@@ -76,10 +79,12 @@ cause_later (Ok x) a b c low h = tt
 cause_later (Err f) a b c low h = cause_since f a b c low h
 
 -- the texts of routines that are known as others
-pub taken_as : (a b : Option (List ℕ)) (rows : List ShapeRow) (rs qs : List RoutineParts) → rs ≡ qs → Appends a b (routines_text rows rs) → Appends a b (routines_text rows qs)
+pub taken_as : (a b : Option (List ℕ)) (rows : List ShapeRow) (rs qs : List RoutineParts) → rs ≡ qs → Appends a b (routines_text rows rs)
+    → Appends a b (routines_text rows qs)
 taken_as a b rows rs qs e h = subst (λ l. Appends a b (routines_text rows l)) e h
 
-pub front_as : (a b : Option (List ℕ)) (rows : List ShapeRow) (rs qs : List RoutineParts) → rs ≡ qs → ((k : ℕ) × Appends a b (take k (routines_text rows rs))) → (k : ℕ) × Appends a b (take k (routines_text rows qs))
+pub front_as : (a b : Option (List ℕ)) (rows : List ShapeRow) (rs qs : List RoutineParts) → rs ≡ qs
+    → ((k : ℕ) × Appends a b (take k (routines_text rows rs))) → (k : ℕ) × Appends a b (take k (routines_text rows qs))
 front_as a b rows rs qs e h = (h.0, subst (λ l. Appends a b (take h.0 (routines_text rows l))) e h.1)
 
 -- the head failed
@@ -87,9 +92,11 @@ pub head_failed : (a b : Option (List ℕ)) (xs ys zs : List ℕ) → ((k : ℕ)
 head_failed a b xs ys zs h = let f = first_failed a b h.0 xs ys h.1 in first_failed a b f.0 (xs ++ ys) zs f.1
 
 -- the routines' texts failed, behind the head
-pub middle_failed : (a b c : Option (List ℕ)) (xs ys zs : List ℕ) → Appends a b xs → ((k : ℕ) × Appends b c (take k ys)) → (n : ℕ) × Appends a c (take n ((xs ++ ys) ++ zs))
+pub middle_failed : (a b c : Option (List ℕ)) (xs ys zs : List ℕ) → Appends a b xs → ((k : ℕ) × Appends b c (take k ys)) → (n : ℕ)
+    × Appends a c (take n ((xs ++ ys) ++ zs))
 middle_failed a b c xs ys zs h g = let f = then_failed a b c g.0 xs ys h g.1 in first_failed a c f.0 (xs ++ ys) zs f.1
 
 -- the last line was tried, behind both
-pub last_takes : {T E : Type 0} (a b c d : Option (List ℕ)) (r : Result T E) (xs ys zs : List ℕ) → Appends a b xs → Appends b c ys → TakesAll c d r zs → TakesAll a d r ((xs ++ ys) ++ zs)
+pub last_takes : {T E : Type 0} (a b c d : Option (List ℕ)) (r : Result T E) (xs ys zs : List ℕ) → Appends a b xs → Appends b c ys → TakesAll c d r zs
+    → TakesAll a d r ((xs ++ ys) ++ zs)
 last_takes a b c d r xs ys zs h g f = then_takes a c d r (xs ++ ys) zs (Appends-trans a b c xs ys h g) f

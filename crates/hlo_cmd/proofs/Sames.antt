@@ -4,7 +4,7 @@ use Rattle.outside.specs.Told.{Told}
 use Rattle.sym_tables.specs.Table.{Table}
 use Rattle.c_tree.specs.declared.declaration.Module.{Module}
 use Rattle.c_typed.specs.declared.function.TypedModule.{TypedModule}
-use Rattle.c_types.specs.Rules.{Here, Gives}
+use Rattle.c_types.specs.Rules.{Gives}
 use Rattle.c_module.specs.Files.{HoldsModule}
 use Rattle.c_module.specs.Told.{AreTextsOf, AreWellFormedTexts, IsTextOf}
 use Rattle.c_module.specs.Verdict.{HoldModules, HoldWellFormed}
@@ -22,7 +22,8 @@ same_modules tells (f ∷ files) (m ∷ ms) [] texts held = absurd held
 same_modules tells (f ∷ files) (m ∷ ms) (n ∷ ns) texts held =
     ap (λ x. x ∷ ns) (same_module (tells f) m n texts.0 held.0) ∙ ap (λ l. m ∷ l) (same_modules tells files ms ns texts.1 held.1)
 
-same_typed : (number : ℕ) (old : Table) (ms : List Module) (ts us : List TypedModule) (a b : Table) → AreTypedAs number old ms ts a → AreTypedAs number old ms us b
+same_typed : (number : ℕ) (old : Table) (ms : List Module) (ts us : List TypedModule) (a b : Table) → AreTypedAs number old ms ts a
+    → AreTypedAs number old ms us b
     → (ts ≡ us) × (a ≡ b)
 same_typed number old [] [] [] a b x y = (refl, x ∙ sym y)
 same_typed number old [] [] (u ∷ us) a b x y = absurd y

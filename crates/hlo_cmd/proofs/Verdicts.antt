@@ -37,7 +37,8 @@ pub said_under : (Said : List ℕ → Type 0) (old new : Table) (r : Refusal) �
 said_under Said old new r e h = subst (λ s. Said (refusal_line s r)) e h
 
 -- a program with the counts of the flat profile
-pub flat_program : (counts : Counts) (tells : List ℕ → Told) (files : List (List ℕ)) (program : IlProgram) (syms : Table) → counts ≡ flat_counts → IsProgramOf counts tells files program syms
+pub flat_program : (counts : Counts) (tells : List ℕ → Told) (files : List (List ℕ)) (program : IlProgram) (syms : Table) → counts ≡ flat_counts
+    → IsProgramOf counts tells files program syms
     → IsProgramOf flat_counts tells files program syms
 flat_program counts tells files program syms e h = subst (λ k. IsProgramOf k tells files program syms) e h
 
@@ -53,7 +54,8 @@ want_is_memory Memory h = refl
 abbrev pub IsLater : ℕ → Type 0
 IsLater status = (status ≡ 0) ⊎ ((status ≡ 6) ⊎ ((status ≡ 11) ⊎ ((status ≡ 12) ⊎ (status ≡ 13))))
 
-later_is_not : {A : Type 0} (s n : ℕ) → IsLater s → s ≡ n → nat_eq 0 n ≡ false → nat_eq 6 n ≡ false → nat_eq 11 n ≡ false → nat_eq 12 n ≡ false → nat_eq 13 n ≡ false → A
+later_is_not : {A : Type 0} (s n : ℕ) → IsLater s → s ≡ n → nat_eq 0 n ≡ false → nat_eq 6 n ≡ false → nat_eq 11 n ≡ false → nat_eq 12 n ≡ false
+    → nat_eq 13 n ≡ false → A
 later_is_not s n (inl h) e a b c d f = not_both s 0 n h e a
 later_is_not s n (inr (inl h)) e a b c d f = not_both s 6 n h e b
 later_is_not s n (inr (inr (inl h))) e a b c d f = not_both s 11 n h e c
@@ -88,10 +90,16 @@ module _ (Asks : List (List ℕ) → Type 0) (tells : List ℕ → Told) (before
   module _ (same : (f g : List (List ℕ)) → Asks f → Asks g → f ≡ g) (files : List (List ℕ)) (asked : Asks files) where
     -- the files are refused, or one couldn't be read, or memory ran out
     pub by_fault : (syms : Table) (fault : ProgramFault) → status ≡ refusal_status (program_refusal fault) → Said (refusal_line syms (program_refusal fault))
-        → IsProgramCause fault files tells before after syms → (AreQuiet before after files → IsUnread fault → ⊥) → ModulesPromise Asks tells before after Said status
+        → IsProgramCause fault files tells before after syms → (AreQuiet before after files → IsUnread fault → ⊥)
+        → ModulesPromise Asks tells before after Said status
     by_fault syms (File file (file_fault.NoModule fault)) e said cause reads = record {
       usage = λ two. not_both status 3 2 e two refl;
-      refused = λ three. record { files = files; asked = asked; holds = inl (record { file = file.now; fault = fault; names = syms; ends = cause; said = said }) };
+      refused = λ three. record {
+        files = files;
+        asked = asked;
+        holds = inl
+            (record { file = file.now; fault = fault; names = syms; ends = cause; said = said });
+      };
       unread = λ five. not_both status 3 5 e five refl;
       memory = λ ten. not_both status 3 10 e ten refl;
       unusable = λ none. absurd (none files asked);

@@ -1,5 +1,5 @@
 -- The table of refusals: the status and the line of each, for all commands; and those of a program's ending.
-use Rattle.std.specs.Prelude.{◌≡◌, ℕ, ◌-◌, ◌^◌, ◌⊎◌, ◌++◌, nat_lt, List, [], ◌∷◌, Option, take, if◌then◌else◌, codes, decimal, option_map, unwrap_or}
+use Rattle.std.specs.Prelude.{ℕ, ◌-◌, ◌^◌, ◌⊎◌, ◌++◌, nat_lt, List, [], ◌∷◌, Option, take, if◌then◌else◌, codes, decimal, option_map, unwrap_or}
 use Rattle.std.specs.Io.KnownBytes.{Appends}
 use Rattle.std.specs.List.{slice_get}
 use Rattle.c_lex.specs.declared.fault.LexKind.{LexKind}

@@ -50,7 +50,8 @@ StopsRefused tells before after Said files = StopsAtModule tells before after Sa
 -- What all commands over modules promise: 2 says that the words ask for no files, 3 that the verdict on them is a refusal, 5
 -- that one couldn't be read, each with the line that tells which; and where the shelf tells files that are to be refused, and no
 -- count of them rose, they are, if memory suffices.
-pub record ModulesPromise (Asks : List (List ℕ) → Type 0) (tells : List ℕ → Told) (before after : List ℕ → ℕ) (Said : List ℕ → Type 0) (status : ℕ) : Type 0 where
+pub record ModulesPromise (Asks : List (List ℕ) → Type 0) (tells : List ℕ → Told) (before after : List ℕ → ℕ) (Said : List ℕ
+    → Type 0) (status : ℕ) : Type 0 where
   pub usage : status ≡ 2 → ((files : List (List ℕ)) → Asks files → ⊥) × Said usage_line
   pub refused : status ≡ 3 → OfAsked Asks (StopsRefused tells before after Said)
   pub unread : status ≡ 5 → OfAsked Asks (StopsUnread tells before after Said)

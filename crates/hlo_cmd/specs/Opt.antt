@@ -25,7 +25,15 @@ pub record AsksOpt (words files : List (List ℕ)) : Type 0 where
 
 -- the report of a run that pages nothing and prints this program
 abbrev pub report_of : IlProgram → Report
-report_of p = record { charged_peak = 0; under_peak = 0; compactions = 0; offloads = 0; reloads = 0; cost_before = cost p.routines; cost_after = cost p.routines }
+report_of p = record {
+  charged_peak = 0;
+  under_peak = 0;
+  compactions = 0;
+  offloads = 0;
+  reloads = 0;
+  cost_before = cost p.routines;
+  cost_after = cost p.routines;
+}
 
 -- the text of the lowered program of the files was put out, and its costs reported
 pub record Prints (tells : List ℕ → Told) (before after : Option (List ℕ)) (report : Report) (files : List (List ℕ)) : Type 0 where
@@ -59,7 +67,8 @@ IsOptStatus status = (status ≡ 0) ⊎ ((status ≡ 2) ⊎ ((status ≡ 3) ⊎ 
 -- What `opt` promises: at 0 the text of the lowered program of the files was put out, and nothing told; at 6 the count of the
 -- sink rose; whatever the status a front of that text was put out, and nothing at 2, 3 and 5; and told files of well formed
 -- modules that link are answered with 0 where no count of them and of the sink rose and memory suffices.
-pub record OptPromise (words : List (List ℕ)) (tells : List ℕ → Told) (shelf shelf_now : List ℕ → ℕ) (before after : Option (List ℕ)) (out out_now : ℕ) (Said : List ℕ → Type 0) (status : ℕ) (report : Option Report) : Type 0 where
+pub record OptPromise (words : List (List ℕ)) (tells : List ℕ → Told) (shelf shelf_now : List ℕ
+    → ℕ) (before after : Option (List ℕ)) (out out_now : ℕ) (Said : List ℕ → Type 0) (status : ℕ) (report : Option Report) : Type 0 where
   pub known : IsOptStatus status
   pub printed : status ≡ 0 → IfSomeReport (λ r. OfAsked (AsksOpt words) (Prints tells before after r)) report × Said []
   pub unwritten : status ≡ 6 → Rose out out_now × OfAsked (AsksOpt words) (PrintsFront tells before after) × Said unwritten_line

@@ -91,7 +91,9 @@ IsRunStatus status = IsEndingStatus status ⊎ ((status ≡ 2) ⊎ ((status ≡ 
 -- at 6 and 11 the count of the sink or of the source rose, at 11 where the run wants one more byte; whatever the status but
 -- these three a front of the output was put out, and nothing at 2, 3 and 5; and told files of well formed modules that link
 -- are answered by the ending of their meaning where no count of them, of the source and of the sink rose and memory suffices.
-pub record RunPromise (words : List (List ℕ)) (tells : List ℕ → Told) (shelf shelf_now : List ℕ → ℕ) (left left_now : Option (List ℕ)) (input input_now : ℕ) (before after : Option (List ℕ)) (out out_now : ℕ) (Said : List ℕ → Type 0) (status : ℕ) : Type 0 where
+pub record RunPromise (words : List (List ℕ)) (tells : List ℕ → Told) (shelf shelf_now : List ℕ
+    → ℕ) (left left_now : Option (List ℕ)) (input input_now : ℕ) (before after : Option (List ℕ)) (out out_now : ℕ) (Said : List ℕ
+    → Type 0) (status : ℕ) : Type 0 where
   pub known : IsRunStatus status
   pub ended : IsEndingStatus status → Ends words tells left before after Said status
   pub unwritten : status ≡ 6 → Rose out out_now × OfAskedRun words (RunsWithin tells left before after) × Said unwritten_line

@@ -90,11 +90,16 @@ abbrev pub IsRunIlCause : Refusal → List ℕ → Told → ℕ → ℕ → ℕ 
 IsRunIlCause Usage name told turns shelf shelf_now left left_now input input_now before after out out_now = ⊥
 IsRunIlCause (Module file fault) name told turns shelf shelf_now left left_now input input_now before after out out_now = ⊥
 IsRunIlCause (Link fault) name told turns shelf shelf_now left left_now input input_now before after out out_now = ⊥
-IsRunIlCause (Text fault) name told turns shelf shelf_now left left_now input input_now before after out out_now = HoldsProgramFault told fault × Keeps before after
-IsRunIlCause (CannotRead file) name told turns shelf shelf_now left left_now input input_now before after out out_now = (file.now ≡ name) × Rose shelf shelf_now × Keeps before after
-IsRunIlCause CannotWrite name told turns shelf shelf_now left left_now input input_now before after out out_now = Rose out out_now × GainsFrontOfRun told turns left before after
-IsRunIlCause CannotReadInput name told turns shelf shelf_now left left_now input input_now before after out out_now = Rose input input_now × WantsMoreInput told turns left left_now before after
-IsRunIlCause Memory name told turns shelf shelf_now left left_now input input_now before after out out_now = Keeps before after ⊎ GainsFrontOfRun told turns left before after
+IsRunIlCause (Text fault) name told turns shelf shelf_now left left_now input input_now before after out out_now = HoldsProgramFault told fault
+    × Keeps before after
+IsRunIlCause (CannotRead file) name told turns shelf shelf_now left left_now input input_now before after out out_now = (file.now ≡ name)
+    × Rose shelf shelf_now × Keeps before after
+IsRunIlCause CannotWrite name told turns shelf shelf_now left left_now input input_now before after out out_now = Rose out out_now
+    × GainsFrontOfRun told turns left before after
+IsRunIlCause CannotReadInput name told turns shelf shelf_now left left_now input input_now before after out out_now = Rose input input_now
+    × WantsMoreInput told turns left left_now before after
+IsRunIlCause Memory name told turns shelf shelf_now left left_now input input_now before after out out_now = Keeps before after
+    ⊎ GainsFrontOfRun told turns left before after
 
 -- no settings were had of the words, of which there are none, or memory ran out; nothing was put out
 pub record HasNoSettings (words : List (List ℕ)) (before after : Option (List ℕ)) (Said : List ℕ → Type 0) (status : ℕ) : Type 0 where
@@ -115,21 +120,28 @@ outcome_line (Err r) = refusal_line [] r
 
 -- The words ask to run the program of a file, and that came to an outcome: the program's ending, with all of its output put
 -- out, or why it didn't run to its end. The status and the line are those of the outcome.
-pub record ComesTo (words : List (List ℕ)) (tells : List ℕ → Told) (shelf shelf_now : List ℕ → ℕ) (left left_now : Option (List ℕ)) (input input_now : ℕ) (before after : Option (List ℕ)) (out out_now : ℕ) (Said : List ℕ → Type 0) (status : ℕ) : Type 0 where
+pub record ComesTo (words : List (List ℕ)) (tells : List ℕ → Told) (shelf shelf_now : List ℕ
+    → ℕ) (left left_now : Option (List ℕ)) (input input_now : ℕ) (before after : Option (List ℕ)) (out out_now : ℕ) (Said : List ℕ
+    → Type 0) (status : ℕ) : Type 0 where
   pub settings : RunIlSettings
   pub asked : IsRunIlSettings words settings
   pub outcome : Result Ending Refusal
   pub came : MatchResult outcome (RunsToEnd (tells settings.file) settings.turns left before after)
-      (λ r. IsRunIlCause r settings.file (tells settings.file) settings.turns (shelf settings.file) (shelf_now settings.file) left left_now input input_now before after out out_now)
+      (λ r. IsRunIlCause r settings.file (tells settings.file) settings.turns (shelf settings.file)
+      (shelf_now settings.file) left left_now input input_now before after out out_now)
   pub status_is : status ≡ outcome_status outcome
   pub said : Said (outcome_line outcome)
 
 -- What `runil` promises: what the status and the line say; and that, where no count rose and memory suffices, the program of
 -- a file that is told ends as it means on an input that is told, a file that is the text of no program is refused, and so are
 -- words without settings.
-pub record RunIlPromise (words : List (List ℕ)) (tells : List ℕ → Told) (shelf shelf_now : List ℕ → ℕ) (left left_now : Option (List ℕ)) (input input_now : ℕ) (before after : Option (List ℕ)) (out out_now : ℕ) (Said : List ℕ → Type 0) (status : ℕ) : Type 0 where
-  pub answered : HasNoSettings words before after Said status ⊎ ComesTo words tells shelf shelf_now left left_now input input_now before after out out_now Said status
-  pub complete : (s : RunIlSettings) (bytes given output : List ℕ) (p : IlProgram) (e : Ending) → IsRunIlSettings words s → tells s.file ≡ Holds bytes → IsProgramText bytes p
+pub record RunIlPromise (words : List (List ℕ)) (tells : List ℕ → Told) (shelf shelf_now : List ℕ
+    → ℕ) (left left_now : Option (List ℕ)) (input input_now : ℕ) (before after : Option (List ℕ)) (out out_now : ℕ) (Said : List ℕ
+    → Type 0) (status : ℕ) : Type 0 where
+  pub answered : HasNoSettings words before after Said status
+      ⊎ ComesTo words tells shelf shelf_now left left_now input input_now before after out out_now Said status
+  pub complete : (s : RunIlSettings) (bytes given output : List ℕ) (p : IlProgram) (e : Ending) → IsRunIlSettings words s → tells s.file ≡ Holds bytes
+      → IsProgramText bytes p
       → left ≡ Some given → il_run p given s.turns ≡ Some (record { output = output; ending = ending_of e })
       → (Rose (shelf s.file) (shelf_now s.file) → ⊥) → (Rose input input_now → ⊥) → (Rose out out_now → ⊥) → (status ≡ ending_status e) ⊎ (status ≡ 10)
   pub refuses : (s : RunIlSettings) (bytes : List ℕ) → IsRunIlSettings words s → tells s.file ≡ Holds bytes → ((p : IlProgram) → IsProgramText bytes p → ⊥)

@@ -82,9 +82,7 @@ fn read_program<'a, S: Shelf>(
     };
     match read_il(alloc, text.as_slice()) {
         Ok(program) => Ok(program),
-        Err(IlFault::At { line, kind }) => {
-            Err(Refusal::Text(TextFault::At { line, kind }))
-        }
+        Err(IlFault::At { line, kind }) => { Err(Refusal::Text(TextFault::At { line, kind })) }
         Err(IlFault::Memory) => Err(Refusal::Memory),
     }
 }

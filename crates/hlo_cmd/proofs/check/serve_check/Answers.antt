@@ -20,7 +20,8 @@ returns-in-Ok-check_modules-clause-promise g c =
 
 pub returns-clause-promise : goal.returns-clause-promise
 returns-clause-promise g c =
-    check_fault _ _ _ _ (Says _ _ _ _) _ c.as_slice.result.now (subst (AsksCheck _) (sym c.as_slice.ensures) c.in-Ok.ensures.ok) _ c.in-Err-check_modules.fault
+    check_fault _ _ _ _ (Says _ _ _ _) _ c.as_slice.result.now
+    (subst (AsksCheck _) (sym c.as_slice.ensures) c.in-Ok.ensures.ok) _ c.in-Err-check_modules.fault
     (status_by _ _ _ c.program_refusal.ensures c.refused-in-Err-check_modules.ensures.status)
     (said_by (Says _ _ _ _) _ _ _ c.program_refusal.ensures c.refused-in-Err-check_modules.ensures.line)
     c.in-Err-check_modules.ensures.err c.in-Err-check_modules.ensures.reads c.in-Err-check_modules.ensures.complete

@@ -15,7 +15,8 @@ returns-in-Err-clause-err g c =
 
 pub returns-in-Err-lowered_program-clause-err : goal.returns-in-Err-lowered_program-clause-err
 returns-in-Err-lowered_program-clause-err g c =
-    opt_fault _ _ _ _ _ _ _ _ (Says _ _ _ _) _ c.as_slice-files.result.now (subst (AsksOpt _) (sym c.as_slice-files.ensures) c.in-Ok.ensures.ok) _ c.in-Err-lowered_program.fault
+    opt_fault _ _ _ _ _ _ _ _ (Says _ _ _ _) _ c.as_slice-files.result.now
+    (subst (AsksOpt _) (sym c.as_slice-files.ensures) c.in-Ok.ensures.ok) _ c.in-Err-lowered_program.fault
     (status_by _ _ _ c.program_refusal.ensures c.refused-in-Err-lowered_program.ensures.status)
     (said_by (Says _ _ _ _) _ _ _ c.program_refusal.ensures c.refused-in-Err-lowered_program.ensures.line)
     c.in-Err-lowered_program.ensures.err c.in-Err-lowered_program.ensures.reads c.in-Err-lowered_program.ensures.complete (keeps_itself _)
@@ -23,14 +24,16 @@ returns-in-Err-lowered_program-clause-err g c =
 pub returns-in-Ok-print-clause-ok : goal.returns-in-Ok-print-clause-ok
 returns-in-Ok-print-clause-ok g c =
     opt_printed _ _ _ _ _ _ _ _ (Says _ _ _ _) _ c.as_slice-files.result.now (subst (AsksOpt _) (sym c.as_slice-files.ensures) c.in-Ok.ensures.ok)
-    c.in-Ok-lowered_program.program _ (flat_program _ _ _ _ _ c.flat.ensures.counts c.in-Ok-lowered_program.ensures.ok) (no_refusal _ c.in-Ok-lowered_program.ensures.refuses)
+    c.in-Ok-lowered_program.program _ (flat_program _ _ _ _ _ c.flat.ensures.counts c.in-Ok-lowered_program.ensures.ok)
+    (no_refusal _ c.in-Ok-lowered_program.ensures.refuses)
     c.unpaged.result refl (says_nothing _ _) c.in-Ok-print.ensures.bytes
     (report_by _ _ c.as_slice.result.now c.in-Ok-lowered_program.program c.unpaged.ensures c.cost.ensures c.as_slice.ensures)
 
 pub returns-clause-err : goal.returns-clause-err
 returns-clause-err g c =
     opt_unprinted _ _ _ _ _ _ _ _ (Says _ _ _ _) _ c.as_slice-files.result.now (subst (AsksOpt _) (sym c.as_slice-files.ensures) c.in-Ok.ensures.ok)
-    c.in-Ok-lowered_program.program _ (flat_program _ _ _ _ _ c.flat.ensures.counts c.in-Ok-lowered_program.ensures.ok) (no_refusal _ c.in-Ok-lowered_program.ensures.refuses)
+    c.in-Ok-lowered_program.program _ (flat_program _ _ _ _ _ c.flat.ensures.counts c.in-Ok-lowered_program.ensures.ok)
+    (no_refusal _ c.in-Ok-lowered_program.ensures.refuses)
     c.in-Err-print.fault
     (status_by _ _ _ c.print_refusal.ensures c.refused-in-Err-print.ensures.status)
     (said_by (Says _ _ _ _) _ _ _ c.print_refusal.ensures c.refused-in-Err-print.ensures.line)

@@ -13,7 +13,8 @@ pub returns-in_err-print_routines-clause-bytes : goal.returns-in_err-print_routi
 returns-in_err-print_routines-clause-bytes g c =
     let q = c.args.program.now in
     let p = err_from_is_err_and c.from_residual-in_err-print_routines.result c.from_residual-in_err-print_routines.ensures.1 in
-    rw p.1 (middle_failed _ _ _ (head_text q.shapes q.objects) (routines_text q.shapes q.routines) done_text c.in_ok-print_head.ensures.bytes (front_as _ _ q.shapes c.as_slice.result.now q.routines c.as_slice.ensures c.in_err-print_routines.ensures.bytes))
+    rw p.1 (middle_failed _ _ _ (head_text q.shapes q.objects) (routines_text q.shapes q.routines) done_text c.in_ok-print_head.ensures.bytes
+    (front_as _ _ q.shapes c.as_slice.result.now q.routines c.as_slice.ensures c.in_err-print_routines.ensures.bytes))
 
 pub returns-in_err-print_routines-clause-cause : goal.returns-in_err-print_routines-clause-cause
 returns-in_err-print_routines-clause-cause g c =
@@ -23,4 +24,5 @@ returns-in_err-print_routines-clause-cause g c =
 pub returns-clause-bytes : goal.returns-clause-bytes
 returns-clause-bytes g c =
     let q = c.args.program.now in
-    last_takes _ _ _ _ c.put.result (head_text q.shapes q.objects) (routines_text q.shapes q.routines) done_text c.in_ok-print_head.ensures.bytes (taken_as _ _ q.shapes c.as_slice.result.now q.routines c.as_slice.ensures c.in_ok-print_routines.ensures.bytes) c.put.ensures.bytes
+    last_takes _ _ _ _ c.put.result (head_text q.shapes q.objects) (routines_text q.shapes q.routines) done_text c.in_ok-print_head.ensures.bytes
+    (taken_as _ _ q.shapes c.as_slice.result.now q.routines c.as_slice.ensures c.in_ok-print_routines.ensures.bytes) c.put.ensures.bytes

@@ -1,4 +1,4 @@
-use Rattle.std.proofs.Common.{Err, refl, sym, ap, subst}
+use Rattle.std.proofs.Common.{Err, sym, ap, subst}
 use Rattle.hlo_cmd.specs.Messages.{Says}
 use Rattle.hlo_cmd.specs.Run.{AsksRun}
 use Rattle.hlo_cmd.proofs.Fronts.{keeps_itself}
@@ -15,21 +15,26 @@ returns-in-Err-clause-promise g c =
 
 pub returns-in-Err-lowered_program-clause-promise : goal.returns-in-Err-lowered_program-clause-promise
 returns-in-Err-lowered_program-clause-promise g c =
-    run_fault _ _ _ _ _ _ _ _ _ _ _ _ (Says _ _ _ _) _ c.in-Ok.settings.turns c.as_slice-files.result.now (subst (AsksRun _ c.in-Ok.settings.turns) (sym c.as_slice-files.ensures) c.in-Ok.ensures.ok) _ c.in-Err-lowered_program.fault
+    run_fault _ _ _ _ _ _ _ _ _ _ _ _ (Says _ _ _ _) _ c.in-Ok.settings.turns c.as_slice-files.result.now
+    (subst (AsksRun _ c.in-Ok.settings.turns) (sym c.as_slice-files.ensures) c.in-Ok.ensures.ok) _ c.in-Err-lowered_program.fault
     (status_by _ _ _ c.program_refusal.ensures c.refused-in-Err-lowered_program.ensures.status)
     (said_by (Says _ _ _ _) _ _ _ c.program_refusal.ensures c.refused-in-Err-lowered_program.ensures.line)
     c.in-Err-lowered_program.ensures.err c.in-Err-lowered_program.ensures.reads c.in-Err-lowered_program.ensures.complete (keeps_itself _)
 
 pub returns-in-Ok-run-clause-promise : goal.returns-in-Ok-run-clause-promise
 returns-in-Ok-run-clause-promise g c =
-    run_ended _ _ _ _ _ _ _ _ _ _ _ _ (Says _ _ _ _) _ c.in-Ok.settings.turns c.as_slice-files.result.now (subst (AsksRun _ c.in-Ok.settings.turns) (sym c.as_slice-files.ensures) c.in-Ok.ensures.ok)
-    c.in-Ok-lowered_program.program _ (flat_program _ _ _ _ _ c.flat.ensures.counts c.in-Ok-lowered_program.ensures.ok) (no_refusal _ c.in-Ok-lowered_program.ensures.refuses)
+    run_ended _ _ _ _ _ _ _ _ _ _ _ _ (Says _ _ _ _) _ c.in-Ok.settings.turns c.as_slice-files.result.now
+    (subst (AsksRun _ c.in-Ok.settings.turns) (sym c.as_slice-files.ensures) c.in-Ok.ensures.ok)
+    c.in-Ok-lowered_program.program _ (flat_program _ _ _ _ _ c.flat.ensures.counts c.in-Ok-lowered_program.ensures.ok)
+    (no_refusal _ c.in-Ok-lowered_program.ensures.refuses)
     c.in-Ok-run.ending c.ended.ensures.status c.ended.ensures.line c.in-Ok-run.ensures.ends
 
 pub returns-clause-promise : goal.returns-clause-promise
 returns-clause-promise g c =
-    run_stopped _ _ _ _ _ _ _ _ _ _ _ _ (Says _ _ _ _) _ c.in-Ok.settings.turns c.as_slice-files.result.now (subst (AsksRun _ c.in-Ok.settings.turns) (sym c.as_slice-files.ensures) c.in-Ok.ensures.ok)
-    c.in-Ok-lowered_program.program _ (flat_program _ _ _ _ _ c.flat.ensures.counts c.in-Ok-lowered_program.ensures.ok) (no_refusal _ c.in-Ok-lowered_program.ensures.refuses)
+    run_stopped _ _ _ _ _ _ _ _ _ _ _ _ (Says _ _ _ _) _ c.in-Ok.settings.turns c.as_slice-files.result.now
+    (subst (AsksRun _ c.in-Ok.settings.turns) (sym c.as_slice-files.ensures) c.in-Ok.ensures.ok)
+    c.in-Ok-lowered_program.program _ (flat_program _ _ _ _ _ c.flat.ensures.counts c.in-Ok-lowered_program.ensures.ok)
+    (no_refusal _ c.in-Ok-lowered_program.ensures.refuses)
     c.in-Err-run.fault
     (status_by _ _ _ c.run_refusal.ensures c.refused-in-Err-run.ensures.status)
     (said_by (Says _ _ _ _) _ _ _ c.run_refusal.ensures c.refused-in-Err-run.ensures.line)
