@@ -1,0 +1,20 @@
+# Completion of hlo for bash: source this file, or put it into /etc/bash_completion.d.
+_hlo() {
+  local word=${COMP_WORDS[COMP_CWORD]} before=${COMP_WORDS[COMP_CWORD - 1]} command=${COMP_WORDS[1]}
+  COMPREPLY=()
+  if [ "$COMP_CWORD" -eq 1 ]; then
+    mapfile -t COMPREPLY < <(compgen -W "check opt run runil --help --version" -- "$word")
+    return
+  fi
+  case $command in
+    run | runil)
+      [ "$before" = --turns ] && return
+      case $word in -*) mapfile -t COMPREPLY < <(compgen -W "--turns" -- "$word"); return ;; esac ;;
+    check | opt) ;;
+    *) return ;;
+  esac
+  local end=c
+  [ "$command" = runil ] && end=il
+  mapfile -t COMPREPLY < <(compgen -f -X "!*.$end" -- "$word"; compgen -d -- "$word")
+}
+complete -o filenames -F _hlo hlo
