@@ -1,0 +1,3 @@
+mod InPlace
+mod Filling
+mod Moving
