@@ -1,10 +1,9 @@
 -- A table that says what moves say, filled from the last one on.
-use Rattle.std.proofs.Common.{◌≡◌, ℕ, ◌+◌, ◌<◌, ◌≤◌, List, [], ◌∷◌, ◌++◌, Bool, true, false, Option, Some, None, nat_eq, get_or, set, length, refl, ap, sym, subst, ◌∙◌, arith, append_assoc, append-nil, inl, inr, replicate, length-set}
-use Rattle.std.specs.Prelude.{if◌then◌else◌, nat_lt, slice_index_or, slice_set}
+use Rattle.std.proofs.Common.{◌≡◌, ℕ, ◌<◌, List, [], ◌∷◌, ◌++◌, true, Option, Some, None, nat_eq, get_or, set, length, refl, ap, sym, ◌∙◌, arith, append_assoc, inl, inr, length-set}
+use Rattle.std.specs.Prelude.{nat_lt}
 use Rattle.std.specs.Option.{unwrap_or}
-use Rattle.std.proofs.lemmas.Bool.{cases_Bool, eqb-true, eqb-false, ne_eqb, ltb-true, ltb-false, lt-ltb}
-use Rattle.std.proofs.lemmas.List.{get_or-set_same, get_or-set_other, get_or-replicate}
-use Rattle.il_laws.specs.Retarget.{SiteMove, callee_at}
+use Rattle.std.proofs.lemmas.Bool.{cases_Bool, eqb-true, eqb-false, lt-ltb}
+use Rattle.std.proofs.lemmas.List.{get_or-set_same, get_or-set_other}
 use Rattle.clone_groups.specs.Moves.{HasMoves, callee_in, moves_of, put_callee}
 
 -- the moves behind those that are left are in the table
@@ -13,9 +12,6 @@ pub record Filling (moves left : List (ℕ × ℕ)) (n : ℕ) (t : List (Option 
   pub whole : moves ≡ left ++ done
   pub size : length t ≡ n
   pub has : HasMoves n t (moves_of done)
-
-pub no_moves : (n : ℕ) → HasMoves n (replicate n None) (moves_of [])
-no_moves n = record { says = λ k callee lt. ap (λ (o : Option ℕ). unwrap_or o callee) (get_or-replicate n k None None lt) }
 
 put_size : (t : List (Option ℕ)) (site callee : ℕ) → length (put_callee t site callee) ≡ length t
 put_size t site callee = elim (cases_Bool (nat_lt site (length t))) [
@@ -44,9 +40,6 @@ module _ (n : ℕ) (t : List (Option ℕ)) (ms : List (ℕ × ℕ)) (size : leng
     ];
   }
 
-pub starts_filling : (moves : List (ℕ × ℕ)) (n : ℕ) (t : List (Option ℕ)) → length t ≡ n → HasMoves n t (moves_of []) → Filling moves moves n t
-starts_filling moves n t size h = record { done = []; whole = sym (append-nil moves); size = size; has = h }
-
 pub fills_one : (moves left before : List (ℕ × ℕ)) (m : ℕ × ℕ) (n : ℕ) (t : List (Option ℕ)) → left ≡ before ++ m ∷ [] → Filling moves left n t
     → Filling moves before n (put_callee t m.0 m.1)
 fills_one moves left before m n t e f = record {
@@ -55,7 +48,3 @@ fills_one moves left before m n t e f = record {
   size = put_size t m.0 m.1 ∙ f.size;
   has = one_put n t f.done f.size f.has m;
 }
-
-pub all_filled : (moves left : List (ℕ × ℕ)) (n : ℕ) (t : List (Option ℕ)) → left ≡ [] → Filling moves left n t → HasMoves n t (moves_of moves)
-all_filled moves left n t e f =
-    subst (λ (l : List (ℕ × ℕ)). HasMoves n t (moves_of l)) (sym (f.whole ∙ ap (λ (l : List (ℕ × ℕ)). l ++ f.done) e)) f.has

@@ -1,6 +1,6 @@
 -- A loop that changes the elements of a list in their places, with a number that grows by what each element counts.
-use Rattle.std.proofs.Common.{◌≡◌, ℕ, ◌+◌, ◌<◌, ◌≤◌, List, [], ◌∷◌, ◌++◌, get_or, set, take, drop, length, refl, ap, sym, subst, ◌∙◌, arith, append_assoc, length-set}
-use Rattle.std.proofs.lemmas.List.{drop_all, drop_more, drop-set-lt, take_all, take_more_set, append-nil}
+use Rattle.std.proofs.Common.{◌≡◌, ℕ, ◌+◌, ◌<◌, ◌≤◌, List, [], ◌∷◌, ◌++◌, get_or, set, take, drop, length, ap, sym, ◌∙◌, arith, append_assoc, length-set}
+use Rattle.std.proofs.lemmas.List.{drop_more, drop-set-lt, take_more_set}
 use Rattle.list_laws.proofs.Elements.{drop_read}
 
 -- The whole change, one element of it, and how many all count together and one alone; both go from the first element on.
@@ -22,21 +22,7 @@ pub record Changing {X : Type 0} (h : Change X) (start : ℕ) (xs : List X) (i k
   pub counted : h.count (drop i xs) + k ≡ h.count xs + start
 
 module _ {X : Type 0} (h : Change X) (start : ℕ) (xs : List X) where
-  pub none_changed : Changing h start xs 0 start xs
-  none_changed = record { size = refl; rest = refl; changed = refl; counted = refl }
-
   module _ (i k : ℕ) (now : List X) (c : Changing h start xs i k now) where
-    pub all_changed : length now ≤ i → (now ≡ h.whole start xs) × (k ≡ h.count xs + start)
-    all_changed past =
-        let same = c.size in
-        let none : drop i xs ≡ [] = drop_all i xs (omega arith) in
-        let left : h.count (drop i xs) ≡ 0 = ap h.count none ∙ h.nothing in
-        let counted = c.counted in (
-          sym (append-nil now) ∙ ap (λ (l : List X). l ++ []) (sym (take_all i now past))
-              ∙ ap (λ (l : List X). take i now ++ l) (sym (ap (h.whole k) none ∙ h.none k)) ∙ c.changed,
-          omega arith,
-        )
-
     module _ (x : X) (lt : i < length now) (read : x ≡ get_or now i x) where
       here : drop i xs ≡ x ∷ drop (i + 1) xs
       here =

@@ -1,3 +1,4 @@
 mod InPlace
+mod Cloned
 mod Filling
 mod Moving

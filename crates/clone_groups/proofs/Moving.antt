@@ -1,8 +1,7 @@
 -- Calls with other callees: what the table says is what the moves say, and the routine stays within the limits.
-use Rattle.std.proofs.Common.{◌≡◌, ℕ, ◌+◌, ◌<◌, ◌≤◌, List, [], ◌∷◌, ◌++◌, Bool, true, false, Option, Some, None, nat_eq, get_or, set, drop, take, length, refl, ap, ap₂, sym, subst, ◌∙◌, arith, append_assoc, append-nil, inl, inr}
-use Rattle.std.specs.Prelude.{if◌then◌else◌, nat_lt, slice_index_or, slice_set}
+use Rattle.std.proofs.Common.{◌≡◌, ℕ, ◌+◌, ◌<◌, ◌≤◌, List, [], ◌∷◌, ◌++◌, Bool, true, false, Option, nat_eq, get_or, drop, take, length, refl, ap, ap₂, ◌∙◌, arith}
+use Rattle.std.specs.Prelude.{if◌then◌else◌}
 use Rattle.std.specs.List.{AllByRecursion}
-use Rattle.std.specs.Option.{unwrap_or}
 use Rattle.std.proofs.lemmas.List.{take_at}
 use Rattle.std.proofs.lemmas.List.Sums.{sum_by-cons}
 use Rattle.list_laws.proofs.Elements.{drop_read}

@@ -1,4 +1,4 @@
-use Rattle.std.proofs.Common.{arith, ap, sym, ◌∙◌, get_or}
+use Rattle.std.proofs.Common.{arith, ap, ◌∙◌}
 use Rattle.il_core.specs.Meaning.{sites_of}
 use Rattle.clone_groups.proofs.Moving.{part_few}
 use Rattle.clone_groups.proofs.retargeting.count_sites.Goals as goal

@@ -1,5 +1,4 @@
 use Rattle.std.proofs.Common.{◌≡◌, ◌∙◌, ap, sym, subst}
-use Rattle.il_core.specs.declared.instr.Block.{Block}
 use Rattle.il_core.specs.Limits.{IsWithinLimits}
 use Rattle.il_core.specs.Routine.{RoutineParts}
 use Rattle.il_core.specs.contracts.routine.Routine.{the_view}
