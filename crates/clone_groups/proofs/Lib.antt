@@ -1,0 +1,4 @@
+mod InPlace
+mod Cloned
+mod Filling
+mod Moving
