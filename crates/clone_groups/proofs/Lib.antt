@@ -2,3 +2,4 @@ mod InPlace
 mod Cloned
 mod Filling
 mod Moving
+mod Tables

@@ -3,6 +3,8 @@
 
 mod cloning;
 mod retargeting;
+mod table;
 
 pub use cloning::{make_clone, make_clone_owned};
 pub use retargeting::{retarget, retarget_owned};
+pub use table::CloneTable;

@@ -1,0 +1,125 @@
+//! Which clone stands for which callee and constants.
+ghost use Rattle.std.specs.Prelude.{◌≡◌, [], ◌∷◌, filter, nat_eq, not, reverse, OnErr, OnOk};
+ghost use Rattle.plan_laws.specs.Groups.{clone_in, is_row_of, same_fixed};
+ghost use Rattle.clone_groups.specs.Fixing.{fixed_of};
+
+use hlo_num::{Seq, Word};
+use std::alloc::{AllocError, Global};
+use std::marker::Model;
+
+/// A clone with the callee and the constants that it was made for.
+#[derive(Drop)]
+struct CloneRow {
+    callee: u32,
+    fixed: Seq<(u32, Word)>,
+    clone: u32,
+}
+
+impl Model for CloneRow {
+    ghost use Rattle.il_laws.specs.Table.{Row};
+    ghost use Rattle.clone_groups.specs.Fixing.{fixed_of};
+
+    ghost Value = { Row };
+
+    ghost view = { λ r. record { callee = r.callee; fixed = fixed_of r.fixed; clone = r.clone } };
+}
+
+/// The clones that stand, each with the callee and the constants that it was made for. Contracts see its rows, the
+/// newest one first.
+#[derive(Drop)]
+pub struct CloneTable {
+    /// The oldest one first.
+    rows: Vec<CloneRow>,
+}
+
+impl Model for CloneTable {
+    ghost use Rattle.std.specs.Prelude.{reverse};
+    ghost use Rattle.clone_groups.specs.Rows.{Rows};
+
+    ghost Value = { Rows };
+
+    ghost view = { λ t. reverse t.rows.items };
+}
+
+impl CloneRow {
+    /// Whether it is for a callee and constants.
+    fn is_for(&self, callee: u32, fixed: &[(u32, Word)]) -> bool
+        ensures { result ≡ is_row_of callee (fixed_of fixed.now) self.now }
+    {
+        self.callee == callee && are_same(self.fixed.as_slice(), fixed)
+    }
+}
+
+/// Whether constants are the same, in their order.
+fn are_same(some: &[(u32, Word)], others: &[(u32, Word)]) -> bool
+    ensures { result ≡ same_fixed (fixed_of some.now) (fixed_of others.now) }
+{
+    let mut left = others;
+    for (param, word) in some {
+        let Some(((other, value), rest)) = left.split_first() else {
+            return false;
+        };
+        if *param != *other || word.0 != value.0 {
+            return false;
+        }
+        left = rest;
+    }
+    left.is_empty()
+}
+
+impl CloneTable {
+    /// No clone stands. It takes constant time and no memory.
+    pub fn new(alloc: Global) -> CloneTable
+        ensures { result ≡ [] }
+    {
+        CloneTable {
+            rows: Vec::new(alloc),
+        }
+    }
+
+    /// Adds a clone for a callee and constants. A refused call, for want of memory, changes nothing. It takes time in
+    /// proportion to the constants, apart from growth.
+    pub fn add(&mut self, callee: u32, fixed: &[(u32, Word)], clone: u32) -> Result<(), AllocError>
+        ensures added { OnOk result (self.new ≡ record { callee = callee; fixed = fixed_of fixed.now; clone = clone } ∷ self.old) }
+        ensures kept { OnErr result (self.new ≡ self.old) }
+    {
+        let fixed = Seq::from_vec(Vec::from_slice(*self.rows.allocator(), fixed)?);
+        match self.rows.push(CloneRow {
+            callee,
+            fixed,
+            clone,
+        }) {
+            Ok(()) => Ok(()),
+            Err(_) => Err(AllocError),
+        }
+    }
+
+    /// Drops the rows of a clone that doesn't stand any more. It takes time in proportion to the rows.
+    pub fn drop_dead(&mut self, pid: u32)
+        ensures { self.new ≡ filter (λ row. not (nat_eq row.clone pid)) self.old }
+    {
+        self.rows.retain(|row: &CloneRow| row.clone != pid);
+    }
+
+    /// The newest clone for a callee and constants, if there is one. It takes time in proportion to the rows, and no
+    /// memory.
+    pub fn clone_for(&self, callee: u32, fixed: &[(u32, Word)]) -> Option<u32>
+        ensures { result ≡ clone_in self.now callee (fixed_of fixed.now) }
+    {
+        newest_for(self.rows.as_slice(), callee, fixed)
+    }
+}
+
+/// The last clone of rows for a callee and constants.
+fn newest_for(rows: &[CloneRow], callee: u32, fixed: &[(u32, Word)]) -> Option<u32>
+    ensures { result ≡ clone_in (reverse rows.now) callee (fixed_of fixed.now) }
+{
+    let mut left = rows;
+    while let Some((row, before)) = left.split_last() {
+        if row.is_for(callee, fixed) {
+            return Some(row.clone);
+        }
+        left = before;
+    }
+    None
+}
