@@ -9,12 +9,12 @@ use Rattle.il_core.specs.declared.instr.Instr.{Instr}
 use Rattle.il_laws.specs.Facts.{Facts, any_writes, facts_at, through}
 use Rattle.il_laws.specs.Propagate.{propagated_block, with_facts}
 use Rattle.const_prop.specs.Tables.{NamesRegisters, AreNamed, facts_in, Has}
-use Rattle.const_prop.specs.Carried.{StandsIn, is_exposed, needs, picked, placed}
+use Rattle.const_prop.specs.Carried.{StandsIn, TakesHere, is_exposed, needs, row_of}
 use Rattle.const_prop.specs.Flow.{Entered, Left, Follows, Starts, bare}
 use Rattle.const_prop.specs.declared.flow.Flow.{Flow}
 use Rattle.list_laws.proofs.Elements.{drop_read, all_drop}
 use Rattle.const_prop.proofs.Exposed.{AgreeWhere, all_by, or_left, or_right, through_by}
-use Rattle.const_prop.proofs.Following.{start_as, follow_more}
+use Rattle.const_prop.proofs.Following.{Sends, start_as, follow_more}
 
 -- the first b blocks are changed by their facts, and what is left is as it was
 pub record Changed (change : Facts → Block → Block) (n k : ℕ) (bs : List Block) (b : ℕ) (f : Flow) (now : List Block) : Type 0 where
@@ -42,33 +42,22 @@ get_of_drop [] (suc b) x ys e = absurd cc
 get_of_drop (y ∷ xs) zero x ys e = let same : y ≡ x = cc in ap Some same
 get_of_drop (y ∷ xs) (suc b) x ys e = get_of_drop xs b x ys e
 
-any_at : {X : Type 0} (p : X → Bool) (xs : List X) (b : ℕ) (x : X) (ys : List X) → drop b xs ≡ x ∷ ys → p x ≡ true → list_any p xs ≡ true
-any_at p [] zero x ys e h = absurd cc
-any_at p [] (suc b) x ys e h = absurd cc
-any_at p (y ∷ xs) zero x ys e h = let same : y ≡ x = cc in or_left (p y) (list_any p xs) (ap p same ∙ h)
-any_at p (y ∷ xs) (suc b) x ys e h = or_right (p y) (list_any p xs) (any_at p xs b x ys e h)
-
-picked_at : (cs : List ℕ) (u : List (Option ℕ)) (i : ℕ) → i < length cs → get_or (picked cs u) i None ≡ get_or u (get_or cs i 0) None
-picked_at [] u i lt = absurd (omega arith)
-picked_at (c ∷ cs) u zero lt = refl
-picked_at (c ∷ cs) u (suc i) lt = picked_at cs u i (omega arith)
-
-picked_size : (cs : List ℕ) (u : List (Option ℕ)) → length (picked cs u) ≡ length cs
-picked_size [] u = refl
-picked_size (c ∷ cs) u = ap suc (picked_size cs u)
-
 module _ (n k : ℕ) (bs : List Block) (b : ℕ) (x : Block) (f : Flow) (t : List (Option ℕ)) (within : b < length bs) (named : AllByRecursion (NamesRegisters n) x.instrs) (here : drop b bs ≡ x ∷ drop (b + 1) bs) (follows : Follows n k bs b f) (starts : Starts f b t) where
-  abbrev cs : List ℕ
-  cs = f.carried.items
-
   abbrev facts : Facts
   facts = facts_at (bare k bs) b
 
-  -- the table has the facts of what the block needs
+  abbrev mine : List ℕ
+  mine = row_of f.carried.items b
+
+  taken_here : TakesHere n f.looped.items f.carried.items b x
+  taken_here = follows.carries.takes b x (get_of_drop bs b x (drop (b + 1) bs) here)
+
+  -- the table has the facts of what the block takes
+  stands_as : (y : ℕ) → StandsIn mine y → facts_in t y ≡ facts y
+  stands_as y s = ap (facts_in t) (sym s.is) ∙ start_as n k bs b f follows t within starts s.place s.within ∙ ap facts s.is
+
   needed_as : (y : ℕ) → y < n → needs x y ≡ true → facts_in t y ≡ facts y
-  needed_as y lt e =
-      let s : StandsIn cs y = follows.carries.all y lt (any_at (λ (z : Block). needs z y) bs b x (drop (b + 1) bs) here e) in
-      ap (facts_in t) (sym s.is) ∙ start_as n k bs b f follows t within starts s.place s.within ∙ ap facts s.is
+  needed_as y lt e = stands_as y (taken_here.needed y lt e)
 
   pub starts_as : AgreeWhere n (is_exposed x.instrs) (facts_in t) facts
   starts_as = record { at = λ y lt e. needed_as y lt (or_left (is_exposed x.instrs y) (not (any_writes x.instrs y) && end_reads x.end y) e) }
@@ -85,20 +74,19 @@ module _ (n k : ℕ) (bs : List Block) (b : ℕ) (x : Block) (f : Flow) (t : Lis
         ∙ through_by n x.instrs (facts_in t) facts named starts_as y
         (λ quiet. needed_as y lt (or_right (is_exposed x.instrs y) (not (any_writes x.instrs y) && end_reads x.end y) (ap (λ (w : Bool). not w && end_reads x.end y) quiet ∙ e)))
 
-    -- and of those that are carried
-    carried_as : Has (length cs) (picked cs u) (placed cs (through x.instrs facts))
-    carried_as =
-        record {
-          size = picked_size cs u;
-          at = λ i lt. picked_at cs u i lt ∙ h.at (get_or cs i 0) (follows.carries.inside i lt)
-              ∙ through_by n x.instrs (facts_in t) facts named starts_as (get_or cs i 0) (λ quiet. start_as n k bs b f follows t within starts i lt);
-        }
+    -- and of those that are taken where it jumps
+    sends_as : Sends f.carried.items f.looped.items x.end b u (through x.instrs facts)
+    sends_as v i behind jumps quiet lt =
+        let y : ℕ = get_or (row_of f.carried.items v) i 0 in
+        let less : y < n = follows.carries.inside v i lt in
+        let stands : StandsIn (row_of f.carried.items v) y = record { place = i; within = lt; is = refl } in
+        h.at y less
+        ∙ through_by n x.instrs (facts_in t) facts named starts_as y (λ unwritten. stands_as y (taken_here.passed v y behind less jumps quiet unwritten stands))
 
-    pub follows_next : (f1 f2 : Flow) → Entered f f1 b → Left x.end (picked f1.carried.items u) f1 f2 → Follows n k bs (b + 1) f2
+    pub follows_next : (f1 f2 : Flow) → Entered f f1 b → Left x.end u f1 f2 → Follows n k bs (b + 1) f2
     follows_next f1 f2 e l =
         subst (λ (c : ℕ). Follows n k bs c f2) (omega arith)
-        (follow_more n k bs b f follows x f1 f2 (picked cs u) (get_of_drop bs b x (drop (b + 1) bs) here) e carried_as
-        (subst (λ (ds : List ℕ). Left x.end (picked ds u) f1 f2) e.same.carried l))
+        (follow_more n k bs b f follows x f1 f2 u (get_of_drop bs b x (drop (b + 1) bs) here) e sends_as l)
 
 pub change_next : (change : Facts → Block → Block) (n k : ℕ) (bs : List Block) (b : ℕ) (x y : Block) (f f2 : Flow) (now : List Block) → b < length now
     → drop b bs ≡ x ∷ drop (b + 1) bs → x ≡ get_or now b x → y ≡ change (facts_at (bare k bs) b) x → Follows n k bs (b + 1) f2 → Changed change n k bs b f now
@@ -142,7 +130,7 @@ pub record Going (change : Facts → Block → Block) (n k : ℕ) (bs : List Blo
 pub propagate_next : (n k : ℕ) (bs : List Block) (b : ℕ) (d y : Block) (f f1 f2 : Flow) (s t u : List (Option ℕ)) (now : List Block) → AreNamed n bs
     → b < length now → d ≡ get_or now b d → Going propagated_block n k bs b f s now → length t ≡ length s → Starts f b t → Entered f f1 b
     → y ≡ propagated_block (facts_in t) (get_or now b d) → Has (length t) u (through (get_or now b d).instrs (facts_in t))
-    → Left y.end (picked f1.carried.items u) f1 f2 → Going propagated_block n k bs (b + 1) f2 u (set now b y)
+    → Left y.end u f1 f2 → Going propagated_block n k bs (b + 1) f2 u (set now b y)
 propagate_next n k bs b d y f f1 f2 s t u now named lt read g same starts e is has l =
     let c = g.changed in
     let x : Block = get_or now b d in
@@ -152,7 +140,7 @@ propagate_next n k bs b d y f f1 f2 s t u now named lt read g same starts e is h
     let within : b < length bs = omega arith in
     let mine : AllByRecursion (NamesRegisters n) x.instrs = named_block n bs b x named here in
     let behind : Has n u (through x.instrs (facts_in t)) = subst (λ (m : ℕ). Has m u (through x.instrs (facts_in t))) (same ∙ g.size) has in
-    let left : Left x.end (picked f1.carried.items u) f1 f2 = subst (λ (z : Block). Left z.end (picked f1.carried.items u) f1 f2) is l in
+    let left : Left x.end u f1 f2 = subst (λ (z : Block). Left z.end u f1 f2) is l in
     record {
       changed = change_next propagated_block n k bs b x y f f2 now lt here again (is ∙ propagated_as n k bs b x f t within mine here c.follows starts)
           (follows_next n k bs b x f t within mine here c.follows starts u behind f1 f2 e left) c;

@@ -11,7 +11,6 @@ use Rattle.hlo_num.specs.declared.word.Word.{Word}
 use Rattle.il_laws.specs.Facts.{Facts, after, through, facts_at}
 use Rattle.il_laws.specs.Known.{KnownSite, site_of, known_in, known_from}
 use Rattle.const_prop.specs.Tables.{NamesRegisters, AreNamed, facts_in, Has}
-use Rattle.const_prop.specs.Carried.{picked}
 use Rattle.const_prop.specs.Flow.{Entered, Left, Follows, Starts, bare}
 use Rattle.const_prop.specs.Sites.{words_of}
 use Rattle.const_prop.specs.declared.flow.Flow.{Flow}
@@ -92,7 +91,7 @@ pub record PuttingAll (n k : ℕ) (bs : List Block) (was : List (List (Option Wo
 pub put_next : (n k : ℕ) (bs : List Block) (was : List (List (Option Word))) (b : ℕ) (x : Block) (f f1 f2 : Flow) (s t u : List (Option ℕ)) (now new : List (List (Option Word)))
     → AreNamed n bs → b < length bs → x ≡ get_or bs b x → PuttingAll n k bs was b f s now → length t ≡ length s → Starts f b t → Entered f f1 b
     → words_of new ≡ words_of now ++ words_in (known_in (facts_in t) x.instrs) → Has (length t) u (through x.instrs (facts_in t))
-    → Left x.end (picked f1.carried.items u) f1 f2 → PuttingAll n k bs was (b + 1) f2 u new
+    → Left x.end u f1 f2 → PuttingAll n k bs was (b + 1) f2 u new
 put_next n k bs was b x f f1 f2 s t u now new named lt read p same starts e is has left =
     let here : drop b bs ≡ x ∷ drop (b + 1) bs = drop_read bs b x lt read in
     let mine : AllByRecursion (NamesRegisters n) x.instrs = named_block n bs b x named here in

@@ -3,8 +3,8 @@ use Rattle.std.specs.Prelude.{◌≡◌, ◌≢◌, ℕ, ◌<◌, ◌≤◌, ◌
 use Rattle.il_core.specs.declared.instr.Block.{Block}
 use Rattle.il_core.specs.declared.instr.End.{End}
 use Rattle.il_core.specs.Routine.{RoutineParts}
-use Rattle.il_laws.specs.Facts.{Facts, looped, written, jumps_to, meet, arriving, before}
-use Rattle.const_prop.specs.Carried.{Carries, Knows, RestoresIfSome, placed_if_some}
+use Rattle.il_laws.specs.Facts.{Facts, looped, written, jumps_to, both_know, meet, arriving, before}
+use Rattle.const_prop.specs.Carried.{Carries, Knows, RestoresIfSome, placed, placed_if_some, row_of}
 use Rattle.const_prop.specs.Tables.{facts_in, Has, AreMarks}
 use Rattle.const_prop.specs.declared.flow.Flow.{Flow}
 
@@ -40,30 +40,38 @@ abbrev pub IsSizedIfSome : ℕ → Option (List (Option ℕ)) → Type 0
 IsSizedIfSome n None = ⊤
 IsSizedIfSome n (Some t) = length t ≡ n
 
--- what is kept has the sizes of the routine, and carried registers are among its registers
+-- facts, by their places, keep what others know too
+pub record Met (fs : Facts) (old new : List (Option ℕ)) : Type 0 where
+  pub size : length new ≡ length old
+  pub at : (i : ℕ) → i < length old → slice_index_or new i None ≡ both_know (fs i) (slice_index_or old i None)
+
+-- what is kept has the sizes of the routine, and what blocks take is among its registers
 pub record IsSized (f : Flow) : Type 0 where
   pub looped : length f.looped.items ≡ length f.arriving.items
   pub written : length f.written.items ≡ f.regs
-  pub carried : (i : ℕ) → i < length f.carried.items → slice_index_or f.carried.items i 0 < f.regs
-  pub tables : (t : ℕ) → IsSizedIfSome (length f.carried.items) (slice_index_or f.arriving.items t None)
+  pub carried : length f.carried.items ≡ length f.arriving.items
+  pub inside : (b i : ℕ) → i < length (row_of f.carried.items b) → slice_index_or (row_of f.carried.items b) i 0 < f.regs
+  pub tables : (t : ℕ) → IsSizedIfSome (length (row_of f.carried.items t)) (slice_index_or f.arriving.items t None)
 
--- What is kept of a routine with so many registers before block b: what arrives at block b and at those behind it.
+-- What is kept of a routine with so many registers before block b: what arrives at block b and at those behind it, if no
+-- `loop` goes there.
 pub record Follows (n k : ℕ) (blocks : List Block) (b : ℕ) (f : Flow) : Type 0 where
   pub params : f.params ≡ k
   pub regs : f.regs ≡ n
-  pub carries : Carries n f.carried.items blocks
+  pub carries : Carries n f.looped.items f.carried.items blocks
   pub looped : AreMarks (length blocks) f.looped.items (looped blocks)
   pub written : AreMarks n f.written.items (written blocks)
   pub count : length f.arriving.items ≡ length blocks
   pub sized : IsSized f
-  pub arriving : (t : ℕ) → b ≤ t → t < length blocks
-      → HasIfSome (length f.carried.items) (slice_index_or f.arriving.items t None) (placed_if_some f.carried.items (arriving t (before (bare k blocks) b)))
+  pub arriving : (t : ℕ) → b ≤ t → t < length blocks → slice_index_or f.looped.items t false ≡ false
+      → HasIfSome (length (row_of f.carried.items t)) (slice_index_or f.arriving.items t None)
+      (placed_if_some (row_of f.carried.items t) (arriving t (before (bare k blocks) b)))
 
--- a table has the facts of carried registers at the start of a block, by what is kept
+-- a table has the facts at the start of block b, of the registers that it takes, by what is kept
 pub record Starts (f : Flow) (b : ℕ) (t : List (Option ℕ)) : Type 0 where
-  pub looped : slice_index_or f.looped.items b false ≡ true → Knows f.carried.items t (quiet f.params f.written.items)
-  pub first : slice_index_or f.looped.items b false ≡ false → b ≡ 0 → Knows f.carried.items t (zeros f.params)
-  pub others : slice_index_or f.looped.items b false ≡ false → b ≢ 0 → RestoresIfSome f.carried.items (slice_index_or f.arriving.items b None) t
+  pub looped : slice_index_or f.looped.items b false ≡ true → Knows (row_of f.carried.items b) t (quiet f.params f.written.items)
+  pub first : slice_index_or f.looped.items b false ≡ false → b ≡ 0 → Knows (row_of f.carried.items b) t (zeros f.params)
+  pub others : slice_index_or f.looped.items b false ≡ false → b ≢ 0 → RestoresIfSome (row_of f.carried.items b) (slice_index_or f.arriving.items b None) t
 
 -- what stays as the facts go on
 pub record SameRoutine (old new : Flow) : Type 0 where
@@ -80,16 +88,19 @@ pub record Entered (old new : Flow) (b : ℕ) : Type 0 where
   pub here : slice_index_or new.arriving.items b None ≡ None
   pub others : (t : ℕ) → t ≢ b → slice_index_or new.arriving.items t None ≡ slice_index_or old.arriving.items t None
 
--- facts, by their places, have been sent to block t alone
+-- of the registers that block t takes, the facts of a table have been sent there, if no `loop` goes there, and to no other block
 pub record Sent (t : ℕ) (table : List (Option ℕ)) (old new : Flow) : Type 0 where
   pub same : SameRoutine old new
-  pub here : t < length old.arriving.items
-      → HasIfSome (length old.carried.items) (slice_index_or new.arriving.items t None) (Some (meet (facts_in table) (facts_of (slice_index_or old.arriving.items t None))))
+  pub here : t < length old.arriving.items → slice_index_or old.looped.items t false ≡ false
+      → HasIfSome (length (row_of old.carried.items t)) (slice_index_or new.arriving.items t None)
+      (Some (meet (placed (row_of old.carried.items t) (facts_in table)) (facts_of (slice_index_or old.arriving.items t None))))
+  pub quiet : slice_index_or old.looped.items t false ≡ true → slice_index_or new.arriving.items t None ≡ slice_index_or old.arriving.items t None
   pub others : (u : ℕ) → u ≢ t → slice_index_or new.arriving.items u None ≡ slice_index_or old.arriving.items u None
 
--- a block has jumped, with this end and these facts by their places
+-- a block has jumped, with this end and the facts of a table
 pub record Left (e : End) (table : List (Option ℕ)) (old new : Flow) : Type 0 where
   pub same : SameRoutine old new
   pub sized : IsSized new
-  pub arriving : (t : ℕ) → t < length old.arriving.items
-      → HasIfSome (length old.carried.items) (slice_index_or new.arriving.items t None) (arrived e (facts_in table) t (facts_of (slice_index_or old.arriving.items t None)))
+  pub arriving : (t : ℕ) → t < length old.arriving.items → slice_index_or old.looped.items t false ≡ false
+      → HasIfSome (length (row_of old.carried.items t)) (slice_index_or new.arriving.items t None)
+      (arrived e (placed (row_of old.carried.items t) (facts_in table)) t (facts_of (slice_index_or old.arriving.items t None)))

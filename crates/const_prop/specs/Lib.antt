@@ -1,4 +1,5 @@
 pub mod Carried
 pub mod Flow
 pub mod Sites
+pub mod Taking
 pub mod Tables

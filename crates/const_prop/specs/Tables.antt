@@ -9,7 +9,7 @@ use Rattle.il_core.specs.declared.shape.ShapeRow.{ShapeRow}
 use Rattle.il_core.specs.Routine.{RoutineParts}
 use Rattle.il_core.specs.Operands.{is_named, loops_to}
 use Rattle.il_core.specs.Valid.{IsRegIfSome, IsValid}
-use Rattle.il_laws.specs.Facts.{Facts, both_know}
+use Rattle.il_laws.specs.Facts.{Facts}
 
 -- a routine that is valid with some shapes
 abbrev pub IsValidRoutine : RoutineParts → Type 0
@@ -65,11 +65,6 @@ AreNamed n bs = AllByRecursion (λ b. AllByRecursion (NamesRegisters n) b.instrs
 -- whether an end goes back to a block
 abbrev pub is_head : End → ℕ → Bool
 is_head e x = is_named (loops_to e) x
-
--- a table keeps of its facts what another one knows too
-pub record Met (table old new : List (Option ℕ)) : Type 0 where
-  pub size : length new ≡ length old
-  pub at : (x : ℕ) → x < length old → slice_index_or new x None ≡ both_know (slice_index_or table x None) (slice_index_or old x None)
 
 -- so many tables, all of which are missing
 pub record AreMissing (n : ℕ) (rows : List (Option (List (Option ℕ)))) : Type 0 where

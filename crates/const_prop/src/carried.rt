@@ -1,133 +1,238 @@
 //! Registers whose facts go from block to block.
-ghost use Rattle.std.specs.Prelude.{◌≡◌, ◌≢◌, ◌+◌, ℕ, ◌<◌, ◌≤◌, true, false, length, IfOk, if◌then◌else◌, slice_index_or};
+ghost use Rattle.std.specs.Prelude.{◌≡◌, ◌≢◌, ℕ, [], false, ◌+◌, ◌<◌, ◌≤◌, length, IfOk, OnOk, if◌then◌else◌, slice_index_or};
 ghost use Rattle.std.specs.List.{AllByRecursion};
-ghost use Rattle.il_core.specs.Operands.{reads, writes};
+ghost use Rattle.il_core.specs.Operands.{writes};
 ghost use Rattle.const_prop.specs.Tables.{AreNamed, NamesRegisters};
-ghost use Rattle.const_prop.specs.Carried.{Carries, Filled, Notes, NotesBlock, StandsIn, is_needed};
+ghost use Rattle.const_prop.specs.Carried.{Carries, Filled, AreEmpty, IsTaken, StandsIn};
+ghost use Rattle.const_prop.specs.Taking.{IsStamped, IsTaking, Took, TookAll, TookRow, TookNeeded, TookPassed, Noted};
 
-use il_core::{Block, Instr};
+use hlo_num::Seq;
+use il_core::{Block, End, Instr};
 use std::alloc::{AllocError, Global};
+use std::mem;
 
-/// The registers that some block reads, its end included, before it writes them, by rising number: of no other is a word
-/// that is known at a block's start of any use there. It takes time in proportion to the registers and to the
-/// instructions, with what their `clear`s name. The only error is want of memory.
-pub(crate) fn carried(alloc: Global, regs: u32, blocks: &[Block]) -> Result<Vec<u32>, AllocError>
+/// Of each block, the registers of which it takes facts from the blocks before it: those that it reads, its end
+/// included, before it writes them, and those that a block takes to which it jumps and no `loop` goes, unless it writes
+/// them. Of no other is a word that is known at its start of any use. It takes time in proportion to the registers, to
+/// the instructions with what their `clear`s name, and to what it gives. The only error is want of memory.
+pub(crate) fn carried(
+    alloc: Global,
+    regs: u32,
+    blocks: &[Block],
+    looped: &[bool],
+) -> Result<Vec<Seq<u32>>, AllocError>
     requires { AreNamed regs blocks.now }
-    ensures { IfOk result (λ v. Carries regs v.items blocks.now) }
+    ensures { IfOk result (λ v. Carries regs looped.now v.items blocks.now) }
 {
-    let needed = needed(alloc, regs, blocks)?;
-    numbers(alloc, regs, needed.as_slice())
-}
-
-/// Marks of what some block needs.
-fn needed(alloc: Global, regs: u32, blocks: &[Block]) -> Result<Vec<bool>, AllocError>
-    requires { AreNamed regs blocks.now }
-    ensures size { IfOk result (λ v. length v.items ≡ regs) }
-    ensures marks { IfOk result (λ v. (x : ℕ) → x < regs → is_needed blocks.now x ≡ true → slice_index_or v.items x false ≡ true) }
-{
-    let mut needed = vec![in alloc; false; regs as usize]?;
-    let mut writers = vec![in alloc; 0; regs as usize]?;
-    note_blocks(needed.as_mut_slice(), writers.as_mut_slice(), blocks);
-    Ok(needed)
-}
-
-/// Marks what blocks need. A register's writer is the number, from 1, of the block that wrote it last.
-fn note_blocks(needed: &mut [bool], writers: &mut [usize], blocks: &[Block])
-    requires named { AreNamed (length needed.old) blocks.now }
-    requires size { length writers.old ≡ length needed.old }
-    requires fresh { (x : ℕ) → x < length needed.old → slice_index_or writers.old x 0 ≡ 0 }
-    ensures size { length needed.new ≡ length needed.old }
-    ensures marks { (x : ℕ) → x < length needed.old → is_needed blocks.now x ≡ true → slice_index_or needed.new x false ≡ true }
-{
-    for (b, block) in blocks.iter().enumerate() {
-        note_block(needed, writers, b + 1, block);
+    let mut rows = nothing(alloc, blocks.len())?;
+    let mut taking = Taking::new(alloc, regs as usize)?;
+    for done in 0..blocks.len() {
+        let b = blocks.len() - 1 - done;
+        let row = taking.take_block(alloc, done + 1, &blocks[b], rows.as_slice(), looped)?;
+        rows[b] = row;
     }
+    Ok(rows)
 }
 
-/// Marks what a block needs.
-fn note_block(needed: &mut [bool], writers: &mut [usize], b: usize, block: &Block)
-    requires named { AllByRecursion (NamesRegisters (length needed.old)) block.now.instrs }
-    requires size { length writers.old ≡ length needed.old }
-    requires fresh { (x : ℕ) → x < length needed.old → slice_index_or writers.old x 0 ≢ b }
-    ensures { NotesBlock block.now b needed.old needed.new writers.old writers.new }
+/// So many empty rows.
+fn nothing(alloc: Global, count: usize) -> Result<Vec<Seq<u32>>, AllocError>
+    ensures { IfOk result (λ v. AreEmpty count v.items) }
 {
-    for instr in block.instrs.as_slice() {
-        note(needed, writers, b, instr);
+    let mut rows = Vec::with_capacity(alloc, count)?;
+    for b in 0..count {
+        rows.push(Seq::new(alloc))?;
     }
-    if let Some(register) = block.end.source() {
-        read(needed, writers, b, register);
+    Ok(rows)
+}
+
+/// What a block takes, as it is gone through.
+#[derive(Drop)]
+pub(crate) struct Taking {
+    /// The block's stamp: the first one that is gone through has 1.
+    pub stamp: usize,
+    /// The registers that it takes.
+    pub row: Vec<u32>,
+    /// By register, the stamp of the block that took it last.
+    pub takers: Vec<usize>,
+    /// By register, the stamp of the block that wrote it last.
+    pub writers: Vec<usize>,
+}
+
+impl Taking {
+    /// No block has been gone through.
+    fn new(alloc: Global, regs: usize) -> Result<Taking, AllocError>
+        ensures stamped { IfOk result (λ s. IsStamped regs s) }
+        ensures stamp { IfOk result (λ s. s.stamp ≡ 0) }
+        ensures row { IfOk result (λ s. s.row.items ≡ []) }
+    {
+        Ok(Taking {
+            stamp: 0,
+            row: Vec::new(alloc),
+            takers: vec![in alloc; 0; regs]?,
+            writers: vec![in alloc; 0; regs]?,
+        })
     }
-}
 
-/// Notes what an instruction reads and writes.
-fn note(needed: &mut [bool], writers: &mut [usize], b: usize, instr: &Instr)
-    requires named { NamesRegisters (length needed.old) instr.now }
-    requires size { length writers.old ≡ length needed.old }
-    ensures { Notes instr.now b needed.old needed.new writers.old writers.new }
-{
-    read_all(needed, writers, b, instr);
-    write(writers, b, instr);
-}
-
-/// Notes all that an instruction reads.
-fn read_all(needed: &mut [bool], writers: &[usize], b: usize, instr: &Instr)
-    ensures size { length needed.new ≡ length needed.old }
-    ensures grows { (x : ℕ) → slice_index_or needed.old x false ≡ true → slice_index_or needed.new x false ≡ true }
-    ensures reads { (x : ℕ) → x < length needed.old → x < length writers.now → reads instr.now x ≡ true → slice_index_or writers.now x 0 ≢ b → slice_index_or needed.new x false ≡ true }
-{
-    for source in instr.sources() {
-        read(needed, writers, b, source);
+    /// What a block takes, where what those behind it take is known.
+    fn take_block(
+        &mut self,
+        alloc: Global,
+        stamp: usize,
+        block: &Block,
+        rows: &[Seq<u32>],
+        looped: &[bool],
+    ) -> Result<Seq<u32>, AllocError>
+        requires named { AllByRecursion (NamesRegisters (length self.old.takers.items)) block.now.instrs }
+        requires stamped { IsStamped (length self.old.takers.items) self.old }
+        requires fresh { self.old.stamp < stamp }
+        requires row { self.old.row.items ≡ [] }
+        ensures stamped { OnOk result (IsStamped (length self.old.takers.items) self.new) }
+        ensures stamp { OnOk result (self.new.stamp ≡ stamp) }
+        ensures row { OnOk result (self.new.row.items ≡ []) }
+        ensures takes { IfOk result (λ row. IsTaken (length self.old.takers.items) looped.now rows.now block.now row) }
+    {
+        self.stamp = stamp;
+        self.take_needed(alloc, block)?;
+        self.take_passed(alloc, block.end, rows, looped)?;
+        Ok(Seq::from_vec(mem::replace(&mut self.row, Vec::new(alloc))))
     }
-}
 
-/// Notes that a block reads a register, which it needs where it hasn't written it.
-fn read(needed: &mut [bool], writers: &[usize], b: usize, register: u32)
-    ensures size { length needed.new ≡ length needed.old }
-    ensures grows { (x : ℕ) → slice_index_or needed.old x false ≡ true → slice_index_or needed.new x false ≡ true }
-    ensures here { register < length needed.old → register < length writers.now → slice_index_or writers.now register 0 ≢ b → slice_index_or needed.new register false ≡ true }
-{
-    let register = register as usize;
-    if register < needed.len() && register < writers.len() && writers[register] != b {
-        needed[register] = true;
+    /// Takes what a block reads before it writes it.
+    fn take_needed(&mut self, alloc: Global, block: &Block) -> Result<(), AllocError>
+        requires named { AllByRecursion (NamesRegisters (length self.old.takers.items)) block.now.instrs }
+        requires taking { IsTaking (length self.old.takers.items) self.old }
+        requires fresh { (x : ℕ) → x < length self.old.takers.items → slice_index_or self.old.writers.items x 0 ≢ self.old.stamp }
+        ensures taking { OnOk result (IsTaking (length self.old.takers.items) self.new) }
+        ensures needed { OnOk result (TookNeeded (length self.old.takers.items) block.now self.old self.new) }
+    {
+        for instr in block.instrs.as_slice() {
+            self.note(alloc, instr)?;
+        }
+        if let Some(register) = block.end.source() {
+            self.take(alloc, register)?;
+        }
+        Ok(())
+    }
+
+    /// Takes what those blocks take to which an end jumps, if no `loop` goes there and nothing here has written it.
+    fn take_passed(
+        &mut self,
+        alloc: Global,
+        end: End,
+        rows: &[Seq<u32>],
+        looped: &[bool],
+    ) -> Result<(), AllocError>
+        requires { IsTaking (length self.old.takers.items) self.old }
+        ensures taking { OnOk result (IsTaking (length self.old.takers.items) self.new) }
+        ensures passed { OnOk result (TookPassed (length self.old.takers.items) end looped.now rows.now self.old self.new) }
+    {
+        match end {
+            End::Jump(t) => self.take_target(alloc, t, rows, looped),
+            End::Branch(_, t, u) => {
+                self.take_target(alloc, t, rows, looped)?;
+                self.take_target(alloc, u, rows, looped)?;
+                Ok(())
+            }
+            End::Loop(_) | End::Return(_) | End::Exit(_) => Ok(()),
+        }
+    }
+
+    /// Takes what block t takes, if no `loop` goes there and nothing here has written it.
+    fn take_target(
+        &mut self,
+        alloc: Global,
+        t: u32,
+        rows: &[Seq<u32>],
+        looped: &[bool],
+    ) -> Result<(), AllocError>
+        requires { IsTaking (length self.old.takers.items) self.old }
+        ensures taking { OnOk result (IsTaking (length self.old.takers.items) self.new) }
+        ensures took { OnOk result (Took self.old self.new) }
+        ensures row { OnOk result (slice_index_or looped.now t false ≡ false → TookRow (length self.old.takers.items) (slice_index_or rows.now t []) self.old self.new) }
+    {
+        let t = t as usize;
+        if t >= rows.len() || (t < looped.len() && looped[t]) {
+            return Ok(());
+        }
+        self.take_row(alloc, rows[t].as_slice())
+    }
+
+    /// Takes registers that nothing here has written.
+    fn take_row(&mut self, alloc: Global, row: &[u32]) -> Result<(), AllocError>
+        requires { IsTaking (length self.old.takers.items) self.old }
+        ensures taking { OnOk result (IsTaking (length self.old.takers.items) self.new) }
+        ensures took { OnOk result (Took self.old self.new) }
+        ensures row { OnOk result (TookRow (length self.old.takers.items) row.now self.old self.new) }
+    {
+        for register in row {
+            self.take(alloc, *register)?;
+        }
+        Ok(())
+    }
+
+    /// Takes what an instruction reads, and notes what it writes.
+    fn note(&mut self, alloc: Global, instr: &Instr) -> Result<(), AllocError>
+        requires named { NamesRegisters (length self.old.takers.items) instr.now }
+        requires taking { IsTaking (length self.old.takers.items) self.old }
+        ensures taking { OnOk result (IsTaking (length self.old.takers.items) self.new) }
+        ensures noted { OnOk result (Noted (length self.old.takers.items) instr.now self.old self.new) }
+    {
+        self.take_all(alloc, instr)?;
+        write(self.writers.as_mut_slice(), self.stamp, instr);
+        Ok(())
+    }
+
+    /// Takes all that an instruction reads.
+    fn take_all(&mut self, alloc: Global, instr: &Instr) -> Result<(), AllocError>
+        requires { IsTaking (length self.old.takers.items) self.old }
+        ensures taking { OnOk result (IsTaking (length self.old.takers.items) self.new) }
+        ensures took { OnOk result (Took self.old self.new) }
+        ensures all { OnOk result (TookAll (length self.old.takers.items) instr.now self.old self.new) }
+    {
+        for source in instr.sources() {
+            self.take(alloc, source)?;
+        }
+        Ok(())
+    }
+
+    /// Takes a register that nothing here has written, once.
+    fn take(&mut self, alloc: Global, register: u32) -> Result<(), AllocError>
+        requires { IsTaking (length self.old.takers.items) self.old }
+        ensures taking { OnOk result (IsTaking (length self.old.takers.items) self.new) }
+        ensures took { OnOk result (Took self.old self.new) }
+        ensures here { OnOk result (register < length self.old.takers.items → slice_index_or self.old.writers.items register 0 ≢ self.old.stamp → StandsIn self.new.row.items register) }
+    {
+        let x = register as usize;
+        if x >= self.takers.len() || self.writers[x] == self.stamp || self.takers[x] == self.stamp {
+            return Ok(());
+        }
+        self.takers[x] = self.stamp;
+        self.row.push(register)?;
+        Ok(())
     }
 }
 
 /// Notes what an instruction writes.
-fn write(writers: &mut [usize], b: usize, instr: &Instr)
+fn write(writers: &mut [usize], stamp: usize, instr: &Instr)
     requires { NamesRegisters (length writers.old) instr.now }
     ensures size { length writers.new ≡ length writers.old }
-    ensures is { (x : ℕ) → x < length writers.old → slice_index_or writers.new x 0 ≡ (if writes instr.now x then b else slice_index_or writers.old x 0) }
+    ensures is { (x : ℕ) → x < length writers.old → slice_index_or writers.new x 0 ≡ (if writes instr.now x then stamp else slice_index_or writers.old x 0) }
 {
     match instr {
-        Instr::Clear(first, count, _, _) => write_row(writers, b, *first, *count),
+        Instr::Clear(first, count, _, _) => write_row(writers, stamp, *first, *count),
         _ => {
             if let Some(d) = instr.destination() {
-                writers[d as usize] = b;
+                writers[d as usize] = stamp;
             }
         }
     }
 }
 
 /// Notes that a block writes so many registers.
-fn write_row(writers: &mut [usize], b: usize, first: u32, count: u32)
+fn write_row(writers: &mut [usize], stamp: usize, first: u32, count: u32)
     requires { first + count ≤ length writers.old }
-    ensures { Filled b writers.old writers.new first count }
+    ensures { Filled stamp writers.old writers.new first count }
 {
     let first = first as usize;
-    writers[first..first + count as usize].fill(b);
-}
-
-/// The numbers of the marks that are set.
-fn numbers(alloc: Global, count: u32, marks: &[bool]) -> Result<Vec<u32>, AllocError>
-    requires { length marks.now ≡ count }
-    ensures inside { IfOk result (λ v. (i : ℕ) → i < length v.items → slice_index_or v.items i 0 < count) }
-    ensures all { IfOk result (λ v. (x : ℕ) → x < count → slice_index_or marks.now x false ≡ true → StandsIn v.items x) }
-{
-    let mut numbers = Vec::new(alloc);
-    for x in 0..count {
-        if marks[x as usize] {
-            numbers.push(x)?;
-        }
-    }
-    Ok(numbers)
+    writers[first..first + count as usize].fill(stamp);
 }

@@ -1,9 +1,9 @@
 //! Facts from block to block.
 ghost use Rattle.std.specs.Prelude.{◌≡◌, ℕ, ◌<◌, length, None, Some, OnOk, IfOk, slice_index_or};
 ghost use Rattle.il_laws.specs.Facts.{both_know};
-ghost use Rattle.const_prop.specs.Tables.{AreNamed, Met, AreMissing};
-ghost use Rattle.const_prop.specs.Carried.{Knows, Restores, RestoresIfSome, picked};
-ghost use Rattle.const_prop.specs.Flow.{Follows, Entered, Left, Sent, Starts, IsSized, IsSizedIfSome, quiet, zeros};
+ghost use Rattle.const_prop.specs.Tables.{AreNamed, AreMissing, Has, facts_in};
+ghost use Rattle.const_prop.specs.Carried.{Knows, Restores, RestoresIfSome, placed, row_of};
+ghost use Rattle.const_prop.specs.Flow.{Follows, Entered, Left, Sent, Starts, IsSized, IsSizedIfSome, Met, quiet, zeros};
 
 use crate::carried::carried;
 use crate::marks::{loop_heads, written};
@@ -11,21 +11,22 @@ use hlo_num::Seq;
 use il_core::{Block, End};
 use std::alloc::{AllocError, Global};
 
-/// Facts on their way through a routine, from block to block. A list of facts, of 8 bytes a carried register, is kept
-/// for each block to which an earlier one jumps, until that block is reached. A register is carried where some block
-/// reads it before it writes it; no fact of another one matters at a block's start. A pass takes time in proportion to
-/// the instructions with the registers that they name, and to the carried registers for each block and each edge.
+/// Facts on their way through a routine, from block to block. A block takes the facts of few registers from the blocks
+/// before it: those that it reads before it writes them, and those that a block behind it takes so. A list of these, of 8
+/// bytes a register, is kept for each block to which an earlier one jumps, until that block is reached; at a block to
+/// which some `loop` goes facts begin anew. A pass takes time in proportion to the instructions with the registers that
+/// they name, and to what the blocks take.
 #[derive(Drop)]
 pub struct Flow {
     pub params: u32,
     pub regs: usize,
-    /// The registers whose facts go from block to block.
-    pub carried: Vec<u32>,
+    /// By block, the registers whose facts it takes.
+    pub carried: Vec<Seq<u32>>,
     /// The blocks to which some `loop` goes.
     pub looped: Vec<bool>,
     /// The registers that some instruction writes.
     pub written: Vec<bool>,
-    /// By block, what all that have jumped there know, by places of `carried`.
+    /// By block, what all that have jumped there know, by places of what it takes.
     pub arriving: Vec<Option<Seq<Option<u32>>>>,
 }
 
@@ -36,8 +37,8 @@ impl Flow {
         requires { AreNamed regs blocks.now }
         ensures { IfOk result (λ f. Follows regs params blocks.now 0 f) }
     {
-        let carried = carried(alloc, regs, blocks)?;
         let looped = loop_heads(alloc, blocks)?;
+        let carried = carried(alloc, regs, blocks, looped.as_slice())?;
         let written = written(alloc, regs as usize, blocks)?;
         let arriving = nowhere(alloc, blocks.len())?;
         Ok(Flow {
@@ -57,8 +58,8 @@ impl Flow {
         vec![in alloc; None; self.regs]
     }
 
-    /// Puts the facts at the start of a block into a table, as far as the block, or one that it can come to, reads them.
-    /// What arrived there is taken. It takes time in proportion to the carried registers.
+    /// Puts the facts at the start of a block into a table, of the registers that it takes. What arrived there is taken. It
+    /// takes time in proportion to these registers.
     pub fn enter(&mut self, b: usize, table: &mut [Option<u32>])
         requires within { b < length self.old.arriving.items }
         requires sized { IsSized self.old }
@@ -68,7 +69,7 @@ impl Flow {
         ensures flow { Entered self.old self.new b }
     {
         let kept = self.arriving[b].take();
-        let carried = self.carried.as_slice();
+        let carried = self.carried[b].as_slice();
         if self.looped[b] {
             put_quiet(table, carried, self.params, self.written.as_slice());
         } else if b == 0 {
@@ -78,8 +79,8 @@ impl Flow {
         }
     }
 
-    /// Takes the facts at a block's end to the blocks to which it can jump, in time in proportion to the carried
-    /// registers for each. The only error is want of memory.
+    /// Takes the facts at a block's end to the blocks to which it can jump, in time in proportion to what these take.
+    /// The only error is want of memory.
     pub fn leave(
         &mut self,
         alloc: Global,
@@ -88,82 +89,49 @@ impl Flow {
     ) -> Result<(), AllocError>
         requires sized { IsSized self.old }
         requires count { length table.now ≡ self.old.regs }
-        ensures { OnOk result (Left end (picked self.old.carried.items table.now) self.old self.new) }
+        ensures { OnOk result (Left end table.now self.old self.new) }
     {
         match end {
-            End::Jump(_) | End::Branch(..) => {
-                let facts = picked(alloc, self.carried.as_slice(), table)?;
-                self.spread(alloc, end, facts)
-            }
-            End::Loop(_) | End::Return(_) | End::Exit(_) => Ok(()),
-        }
-    }
-
-    /// Takes facts to the blocks to which an end can jump.
-    fn spread(&mut self, alloc: Global, end: End, facts: Vec<Option<u32>>) -> Result<(), AllocError>
-        requires count { length facts.items ≡ length self.old.carried.items }
-        requires sized { IsSized self.old }
-        ensures { OnOk result (Left end facts.items self.old self.new) }
-    {
-        match end {
-            End::Jump(t) => {
-                self.give(t, facts);
-                Ok(())
-            }
+            End::Jump(t) => self.send(alloc, t, table),
             End::Branch(_, t, u) => {
+                self.send(alloc, t, table)?;
                 if t == u {
-                    self.give(t, facts);
                     return Ok(());
                 }
-                self.send(alloc, t, facts.as_slice())?;
-                self.give(u, facts);
+                self.send(alloc, u, table)?;
                 Ok(())
             }
             End::Loop(_) | End::Return(_) | End::Exit(_) => Ok(()),
         }
     }
 
-    /// Takes a copy of a table to a block.
+    /// Takes facts to a block, if no `loop` goes there.
     fn send(&mut self, alloc: Global, t: u32, table: &[Option<u32>]) -> Result<(), AllocError>
-        requires count { length table.now ≡ length self.old.carried.items }
-        requires sized { IsSizedIfSome (length self.old.carried.items) (slice_index_or self.old.arriving.items t None) }
+        requires sized { IsSized self.old }
+        requires count { length table.now ≡ self.old.regs }
         ensures { OnOk result (Sent t table.now self.old self.new) }
     {
         let t = t as usize;
-        if t >= self.arriving.len() {
+        if t >= self.arriving.len() || self.looped[t] {
             return Ok(());
         }
+        let carried = self.carried[t].as_slice();
         self.arriving[t] = match self.arriving[t].take() {
-            None => Some(Seq::from_vec(Vec::from_slice(alloc, table)?)),
-            Some(kept) => Some(met(kept, table)),
+            None => Some(Seq::from_vec(picked(alloc, carried, table)?)),
+            Some(kept) => Some(met(kept, carried, table)),
         };
         Ok(())
     }
-
-    /// Takes a table to a block.
-    fn give(&mut self, t: u32, table: Vec<Option<u32>>)
-        requires count { length table.items ≡ length self.old.carried.items }
-        requires sized { IsSizedIfSome (length self.old.carried.items) (slice_index_or self.old.arriving.items t None) }
-        ensures { Sent t table.items self.old self.new }
-    {
-        let t = t as usize;
-        if t >= self.arriving.len() {
-            return;
-        }
-        self.arriving[t] = match self.arriving[t].take() {
-            None => Some(Seq::from_vec(table)),
-            Some(kept) => Some(met(kept, table.as_slice())),
-        };
-    }
 }
 
-/// What a table has of its facts that another one knows too.
-fn met(kept: Seq<Option<u32>>, table: &[Option<u32>]) -> Seq<Option<u32>>
-    requires { length table.now ≡ length kept }
-    ensures { Met table.now kept result }
+/// Of the facts of some registers, by their places, what a table knows too.
+fn met(kept: Seq<Option<u32>>, carried: &[u32], table: &[Option<u32>]) -> Seq<Option<u32>>
+    requires inside { (i : ℕ) → i < length carried.now → slice_index_or carried.now i 0 < length table.now }
+    requires sized { length kept ≡ length carried.now }
+    ensures { Met (placed carried.now (facts_in table.now)) kept result }
 {
     let mut kept = kept.into_vec();
-    meet(kept.as_mut_slice(), table);
+    meet(kept.as_mut_slice(), carried, table);
     Seq::from_vec(kept)
 }
 
@@ -188,13 +156,14 @@ fn both_know(a: Option<u32>, b: Option<u32>) -> Option<u32>
     }
 }
 
-/// A table keeps of its facts what another one knows too.
-fn meet(kept: &mut [Option<u32>], table: &[Option<u32>])
-    requires { length table.now ≡ length kept.old }
-    ensures { Met table.now kept.old kept.new }
+/// Of the facts of some registers, by their places, those are kept that a table knows too.
+fn meet(kept: &mut [Option<u32>], carried: &[u32], table: &[Option<u32>])
+    requires inside { (i : ℕ) → i < length carried.now → slice_index_or carried.now i 0 < length table.now }
+    requires sized { length kept.old ≡ length carried.now }
+    ensures { Met (placed carried.now (facts_in table.now)) kept.old kept.new }
 {
-    for x in 0..kept.len() {
-        kept[x] = both_know(table[x], kept[x]);
+    for i in 0..kept.len() {
+        kept[i] = both_know(table[carried[i] as usize], kept[i]);
     }
 }
 
@@ -269,7 +238,7 @@ fn picked(
     table: &[Option<u32>],
 ) -> Result<Vec<Option<u32>>, AllocError>
     requires inside { (i : ℕ) → i < length carried.now → slice_index_or carried.now i 0 < length table.now }
-    ensures { IfOk result (λ v. v.items ≡ picked carried.now table.now) }
+    ensures { IfOk result (λ v. Has (length carried.now) v.items (placed carried.now (facts_in table.now))) }
 {
     let mut facts = Vec::with_capacity(alloc, carried.len())?;
     for x in carried {
