@@ -3,8 +3,10 @@ pub mod Endings
 pub mod Fronts
 pub mod Lines
 pub mod ModuleRuns
+pub mod ModuleTrains
 pub mod Opts
 pub mod Printings
 pub mod Runs
 pub mod Sames
+pub mod Trainings
 pub mod Verdicts

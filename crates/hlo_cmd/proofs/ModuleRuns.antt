@@ -38,17 +38,63 @@ use Rattle.hlo_cmd.proofs.Verdicts.{IsLater, by_acceptance, by_fault, by_memory,
 same_files : (words f g : List (List ℕ)) → AsksRunOf words f → AsksRunOf words g → f ≡ g
 same_files words f g (m, a) (n, b) = ap (λ (s : RunSettings). s.files) (same_run words _ _ a b)
 
-if_told : (P Q : List ℕ → Type 0) (left : Option (List ℕ)) → ((bytes : List ℕ) → P bytes → Q bytes) → IfTold left P → IfTold left Q
+pub if_told : (P Q : List ℕ → Type 0) (left : Option (List ℕ)) → ((bytes : List ℕ) → P bytes → Q bytes) → IfTold left P → IfTold left Q
 if_told P Q None f h = tt
 if_told P Q (Some bytes) f h = f bytes h
 
-same_some : {A : Type 0} {x y : A} → Some x ≡ Some y → x ≡ y
+pub same_some : {A : Type 0} {x y : A} → Some x ≡ Some y → x ≡ y
 same_some e = cc
 
-not_ended : {A : Type 0} (status n : ℕ) → status ≡ n → nat_eq n 0 ≡ false → nat_eq n 12 ≡ false → nat_eq n 13 ≡ false → IsEndingStatus status → A
+pub not_ended : {A : Type 0} (status n : ℕ) → status ≡ n → nat_eq n 0 ≡ false → nat_eq n 12 ≡ false → nat_eq n 13 ≡ false → IsEndingStatus status → A
 not_ended status n e a b c (inl h) = not_both status n 0 e h a
 not_ended status n e a b c (inr (inl h)) = not_both status n 12 e h b
 not_ended status n e a b c (inr (inr h)) = not_both status n 13 e h c
+
+-- what a status says of itself
+module _ (status : ℕ) where
+  pub fault_status : (fault : ProgramFault) → status ≡ refusal_status (program_refusal fault) → (status ≡ 3) ⊎ ((status ≡ 5) ⊎ (status ≡ 10))
+  fault_status (File file (file_fault.NoModule fault)) e = inl e
+  fault_status (File file file_fault.CannotRead) e = inr (inl e)
+  fault_status (File file file_fault.Memory) e = inr (inr e)
+  fault_status (Link fault) e = inl e
+  fault_status Memory e = inr (inr e)
+
+  pub isnt : {A : Type 0} (n : ℕ) → (status ≡ 3) ⊎ ((status ≡ 5) ⊎ (status ≡ 10)) → status ≡ n → nat_eq 3 n ≡ false → nat_eq 5 n ≡ false
+      → nat_eq 10 n ≡ false → A
+  isnt n (inl e) h a b c = not_both status 3 n e h a
+  isnt n (inr (inl e)) h a b c = not_both status 5 n e h b
+  isnt n (inr (inr e)) h a b c = not_both status 10 n e h c
+
+  pub isnt_ended : {A : Type 0} → (status ≡ 3) ⊎ ((status ≡ 5) ⊎ (status ≡ 10)) → IsEndingStatus status → A
+  isnt_ended (inl e) h = not_ended status 3 e refl refl refl h
+  isnt_ended (inr (inl e)) h = not_ended status 5 e refl refl refl h
+  isnt_ended (inr (inr e)) h = not_ended status 10 e refl refl refl h
+
+  pub known_fault : (status ≡ 3) ⊎ ((status ≡ 5) ⊎ (status ≡ 10)) → (status ≡ 3) ⊎ ((status ≡ 5) ⊎ ((status ≡ 6) ⊎ ((status ≡ 10) ⊎ (status ≡ 11))))
+  known_fault (inl e) = inl e
+  known_fault (inr (inl e)) = inr (inl e)
+  known_fault (inr (inr e)) = inr (inr (inr (inl e)))
+
+  -- an ending's status
+  pub is_ending : (e : Ending) → status ≡ ending_status e → IsEndingStatus status
+  is_ending (Exit w) e = inl e
+  is_ending (Trapped t) e = inr (inl e)
+  is_ending OutOfTurns e = inr (inr e)
+
+  pub is_later : IsEndingStatus status → IsLater status
+  is_later (inl e) = inl e
+  is_later (inr (inl e)) = inr (inr (inr (inl e)))
+  is_later (inr (inr e)) = inr (inr (inr (inr e)))
+
+  pub isnt_ending : {A : Type 0} (n : ℕ) → IsEndingStatus status → status ≡ n → nat_eq 0 n ≡ false → nat_eq 12 n ≡ false → nat_eq 13 n ≡ false → A
+  isnt_ending n (inl e) h a b c = not_both status 0 n e h a
+  isnt_ending n (inr (inl e)) h a b c = not_both status 12 n e h b
+  isnt_ending n (inr (inr e)) h a b c = not_both status 13 n e h c
+
+  pub isnt_quiet : {A : Type 0} → IsEndingStatus status → IsQuiet status → A
+  isnt_quiet (inl e) q = not_quiet status 0 e refl refl refl q
+  isnt_quiet (inr (inl e)) q = not_quiet status 12 e refl refl refl q
+  isnt_quiet (inr (inr e)) q = not_quiet status 13 e refl refl refl q
 
 module _ (words : List (List ℕ)) (tells : List ℕ → Told) (shelf shelf_now : List ℕ
     → ℕ) (left left_now : Option (List ℕ)) (input input_now : ℕ) (before after : Option (List ℕ)) (out out_now : ℕ) (Said : List ℕ
@@ -85,38 +131,15 @@ module _ (words : List (List ℕ)) (tells : List ℕ → Told) (shelf shelf_now 
     of_asked Q h m fs also = subst (λ (s : RunSettings). Q s.turns s.files)
         (same_run words (record { turns = turns; files = files }) (record { turns = m; files = fs }) asked also) h
 
-    fault_status : (fault : ProgramFault) → status ≡ refusal_status (program_refusal fault) → (status ≡ 3) ⊎ ((status ≡ 5) ⊎ (status ≡ 10))
-    fault_status (File file (file_fault.NoModule fault)) e = inl e
-    fault_status (File file file_fault.CannotRead) e = inr (inl e)
-    fault_status (File file file_fault.Memory) e = inr (inr e)
-    fault_status (Link fault) e = inl e
-    fault_status Memory e = inr (inr e)
-
-    isnt : {A : Type 0} (n : ℕ) → (status ≡ 3) ⊎ ((status ≡ 5) ⊎ (status ≡ 10)) → status ≡ n → nat_eq 3 n ≡ false → nat_eq 5 n ≡ false
-        → nat_eq 10 n ≡ false → A
-    isnt n (inl e) h a b c = not_both status 3 n e h a
-    isnt n (inr (inl e)) h a b c = not_both status 5 n e h b
-    isnt n (inr (inr e)) h a b c = not_both status 10 n e h c
-
-    isnt_ended : {A : Type 0} → (status ≡ 3) ⊎ ((status ≡ 5) ⊎ (status ≡ 10)) → IsEndingStatus status → A
-    isnt_ended (inl e) h = not_ended status 3 e refl refl refl h
-    isnt_ended (inr (inl e)) h = not_ended status 5 e refl refl refl h
-    isnt_ended (inr (inr e)) h = not_ended status 10 e refl refl refl h
-
-    known_fault : (status ≡ 3) ⊎ ((status ≡ 5) ⊎ (status ≡ 10)) → (status ≡ 3) ⊎ ((status ≡ 5) ⊎ ((status ≡ 6) ⊎ ((status ≡ 10) ⊎ (status ≡ 11))))
-    known_fault (inl e) = inl e
-    known_fault (inr (inl e)) = inr (inl e)
-    known_fault (inr (inr e)) = inr (inr (inr (inl e)))
-
     pub run_fault : (syms : Table) (fault : ProgramFault) → status ≡ refusal_status (program_refusal fault) → Said (refusal_line syms (program_refusal fault))
         → IsProgramCause fault files tells shelf shelf_now syms → (AreQuiet shelf shelf_now files → IsUnread fault → ⊥)
         → ((names : Table) → AreWellFormedTexts tells files names → refusal names ≡ None → AreQuiet shelf shelf_now files → IsWant fault)
         → Keeps before after → RunPromise words tells shelf shelf_now left left_now input input_now before after out out_now Said status
     run_fault syms fault e said cause reads complete kept = record {
-      known = inr (inr (known_fault (fault_status fault e)));
-      ended = λ h. isnt_ended (fault_status fault e) h;
-      unwritten = λ six. isnt 6 (fault_status fault e) six refl refl refl;
-      no_input = λ eleven. isnt 11 (fault_status fault e) eleven refl refl refl;
+      known = inr (inr (known_fault status (fault_status status fault e)));
+      ended = λ h. isnt_ended status (fault_status status fault e) h;
+      unwritten = λ six. isnt status 6 (fault_status status fault e) six refl refl refl;
+      no_input = λ eleven. isnt status 11 (fault_status status fault e) eleven refl refl refl;
       front = inl kept;
       quiet = λ q. kept;
       modules = by_fault (AsksRunOf words) tells shelf shelf_now Said status (same_files words) files (turns, asked) syms fault e said cause reads;
@@ -185,27 +208,6 @@ module _ (words : List (List ℕ)) (tells : List ℕ → Told) (shelf shelf_now 
         complete = λ m fs names given output ending also formed links told run quiet calm calm_out. inr e;
       }
 
-      -- an ending's status
-      is_ending : (e : Ending) → status ≡ ending_status e → IsEndingStatus status
-      is_ending (Exit w) e = inl e
-      is_ending (Trapped t) e = inr (inl e)
-      is_ending OutOfTurns e = inr (inr e)
-
-      is_later : IsEndingStatus status → IsLater status
-      is_later (inl e) = inl e
-      is_later (inr (inl e)) = inr (inr (inr (inl e)))
-      is_later (inr (inr e)) = inr (inr (inr (inr e)))
-
-      isnt_ending : {A : Type 0} (n : ℕ) → IsEndingStatus status → status ≡ n → nat_eq 0 n ≡ false → nat_eq 12 n ≡ false → nat_eq 13 n ≡ false → A
-      isnt_ending n (inl e) h a b c = not_both status 0 n e h a
-      isnt_ending n (inr (inl e)) h a b c = not_both status 12 n e h b
-      isnt_ending n (inr (inr e)) h a b c = not_both status 13 n e h c
-
-      isnt_quiet : {A : Type 0} → IsEndingStatus status → IsQuiet status → A
-      isnt_quiet (inl e) q = not_quiet status 0 e refl refl refl q
-      isnt_quiet (inr (inl e)) q = not_quiet status 12 e refl refl refl q
-      isnt_quiet (inr (inr e)) q = not_quiet status 13 e refl refl refl q
-
       -- told modules have one run, whose ending this is
       one_ending : (e : Ending) → IfTold left (EndsAs program turns e before after) → (names : Table) (given output : List ℕ) (d : Ending)
           → (formed : AreWellFormedTexts tells files names)
@@ -235,7 +237,7 @@ module _ (words : List (List ℕ)) (tells : List ℕ → Told) (shelf shelf_now 
           → RunPromise words tells shelf shelf_now left left_now input input_now before after out out_now Said status
       unfolding Complete
       run_ended e is said ends =
-          let at = is_ending e is in
+          let at = is_ending status e is in
           let complete : Complete turns files = λ names given output d formed told run. inl (is ∙ one_ending e ends names given output d formed told run) in
           record {
             known = inl at;
@@ -256,11 +258,11 @@ module _ (words : List (List ℕ)) (tells : List ℕ → Told) (shelf shelf_now 
               status_is = is;
               said = said;
             };
-            unwritten = λ six. isnt_ending 6 at six refl refl refl;
-            no_input = λ eleven. isnt_ending 11 at eleven refl refl refl;
+            unwritten = λ six. isnt_ending status 6 at six refl refl refl;
+            no_input = λ eleven. isnt_ending status 11 at eleven refl refl refl;
             front = inr (record { turns = turns; files = files; asked = asked; holds = within (whole e ends) });
-            quiet = λ q. isnt_quiet at q;
-            modules = by_acceptance (AsksRunOf words) tells shelf shelf_now Said status (same_files words) files (turns, asked) (is_later at) never;
+            quiet = λ q. isnt_quiet status at q;
+            modules = by_acceptance (AsksRunOf words) tells shelf shelf_now Said status (same_files words) files (turns, asked) (is_later status at) never;
             complete = λ m fs names given output d also formed links told run quiet calm calm_out.
                 of_asked Complete complete m fs also names given output d formed told run;
           }

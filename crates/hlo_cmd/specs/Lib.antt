@@ -6,4 +6,6 @@ pub mod Printing
 pub mod Run
 pub mod RunIl
 pub mod Sizes
+pub mod Train
+pub mod Training
 pub mod Words

@@ -14,7 +14,8 @@ command_named word =
     if bytes_eq word (codes "opt") then command.Opt
     else (if bytes_eq word (codes "check") then command.Check
     else (if bytes_eq word (codes "run") then command.Run
-    else (if bytes_eq word (codes "runil") then command.RunIl else command.Other)))
+    else (if bytes_eq word (codes "runil") then command.RunIl
+    else (if bytes_eq word (codes "train") then command.Train else command.Other))))
 
 -- the command that the first word names
 abbrev pub asked_command : List (List ℕ) → CommandName
@@ -22,7 +23,7 @@ asked_command words = command_named (first_word words)
 
 -- the command runs a program
 abbrev pub Runs : CommandName → Type 0
-Runs name = (name ≡ command.Run) ⊎ (name ≡ command.RunIl)
+Runs name = (name ≡ command.Run) ⊎ ((name ≡ command.RunIl) ⊎ (name ≡ command.Train))
 
 -- no command of `plain_command` has the name
 abbrev pub ServesNone : CommandName → Type 0

@@ -13,6 +13,8 @@ mod refusal;
 mod report;
 mod run;
 mod run_il;
+mod train;
+mod training;
 mod words;
 
 pub use opt::opt_command;

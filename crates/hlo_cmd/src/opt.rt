@@ -1,10 +1,12 @@
 //! The command `opt`.
-ghost use Rattle.std.specs.Prelude.{◌≡◌, ◌↔◌, ◌≤◌, ◌^◌, ℕ, List, IfOk, IfErr, IsSome, Some, None, Err, length, map, string_bytes};
+ghost use Rattle.std.specs.Prelude.{◌≡◌, ◌≢◌, ◌↔◌, ◌≤◌, ◌^◌, ℕ, List, IfOk, IfErr, MatchResult, IsSome, Some, None, Err, length, map, string_bytes};
 ghost use Rattle.il_core.specs.Limits.{max_routines, max_size};
 ghost use Rattle.il_core.specs.Size as sizes;
 ghost use Rattle.outside.specs.Told.{SameFiles};
 ghost use Rattle.hlo_cmd.specs.Messages.{Says};
 ghost use Rattle.hlo_cmd.specs.Opt.{AsksOpt, OptPromise};
+ghost use Rattle.hlo_cmd.specs.Words.{asked_command};
+ghost use Rattle.hlo_cmd.specs.declared.words.CommandName.TheVariants as command;
 
 use crate::messages::refused;
 use crate::print::print;
@@ -42,6 +44,9 @@ pub fn opt_command<S: Shelf, O: Sink, E: Sink, D: Disk + Send, G: Gate + Sync>(
     // What each status says, of the words, the files, the text and the line.
     ensures promise { OptPromise (map string_bytes words.now) (S.tells shelf.old) (S.faults shelf.old) (S.faults shelf.new) (O.taken out.old) (O.taken out.new) (O.faults out.old) (O.faults out.new) (Says (E.taken err.old) (E.taken err.new) (E.faults err.old) (E.faults err.new)) result.status.0 result.report }
 
+    // Another first word is refused.
+    ensures other { asked_command (map string_bytes words.now) ≢ command.Opt → result.status.0 ≡ 2 }
+
     // What stays the same.
     ensures report { IsSome result.report ↔ (result.status.0 ≡ 0) }
     ensures disk { result.disk ≡ disk }
@@ -71,6 +76,7 @@ fn serve_opt<S: Shelf, O: Sink, E: Sink>(
 ) -> Result<Report, Status>
     ensures ok { IfOk result (λ report. OptPromise (map string_bytes words.now) (S.tells shelf.old) (S.faults shelf.old) (S.faults shelf.new) (O.taken out.old) (O.taken out.new) (O.faults out.old) (O.faults out.new) (Says (E.taken err.old) (E.taken err.new) (E.faults err.old) (E.faults err.new)) 0 (Some report)) }
     ensures err { IfErr result (λ status. OptPromise (map string_bytes words.now) (S.tells shelf.old) (S.faults shelf.old) (S.faults shelf.new) (O.taken out.old) (O.taken out.new) (O.faults out.old) (O.faults out.new) (Says (E.taken err.old) (E.taken err.new) (E.faults err.old) (E.faults err.new)) status.0 None) }
+    ensures other { asked_command (map string_bytes words.now) ≢ command.Opt → MatchResult result (λ report. ⊥) (λ status. status.0 ≡ 2) }
     ensures files { SameFiles (S.tells shelf.old) (S.tells shelf.new) }
 {
     let mut syms = ProgramSyms::new(alloc);
@@ -93,6 +99,7 @@ fn serve_opt<S: Shelf, O: Sink, E: Sink>(
 fn opt_settings(alloc: Global, words: &[String]) -> Result<OptSettings, WordsFault>
     ensures ok { IfOk result (λ s. AsksOpt (map string_bytes words.now) s.files) }
     ensures usage { result ≡ Err WordsFault.Usage → (files : List (List ℕ)) → AsksOpt (map string_bytes words.now) files → ⊥ }
+    ensures other { asked_command (map string_bytes words.now) ≢ command.Opt → result ≡ Err WordsFault.Usage }
 {
     if asked_command(words) == CommandName::Opt {
         read_opt(alloc, words)

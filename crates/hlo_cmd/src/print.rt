@@ -1,5 +1,5 @@
 //! The text of a program, put out in pieces.
-ghost use Rattle.std.specs.Prelude.{◌≤◌, IfErr};
+ghost use Rattle.std.specs.Prelude.{◌≡◌, ◌≤◌, IfErr};
 ghost use Rattle.std.specs.List.{AllByRecursion};
 ghost use Rattle.il_core.specs.Program.{name_at};
 ghost use Rattle.il_core.specs.Text.{head_text, routine_text, routines_text, text};
@@ -89,9 +89,10 @@ fn print_routine<O: Sink>(
 }
 
 /// Puts out a piece.
-fn put<O: Sink>(out: &mut O, piece: &[u8]) -> Result<(), PrintFault>
+pub(crate) fn put<O: Sink>(out: &mut O, piece: &[u8]) -> Result<(), PrintFault>
     ensures bytes { TakesAll (O.taken out.old) (O.taken out.new) result piece.now }
     ensures cause { IfErr result (λ f. IsPrintCause f (O.faults out.old) (O.faults out.new)) }
+    ensures fault { IfErr result (λ f. f ≡ PrintFault.Output) }
     ensures later { O.faults out.old ≤ O.faults out.new }
 {
     match write_all(out, piece) {

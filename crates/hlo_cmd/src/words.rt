@@ -9,6 +9,7 @@ pub(crate) enum CommandName {
     Check,
     Run,
     RunIl,
+    Train,
     /// The word names none of them.
     Other,
 }
@@ -32,6 +33,8 @@ fn command_named(word: &str) -> CommandName
         CommandName::Run
     } else if word == "runil" {
         CommandName::RunIl
+    } else if word == "train" {
+        CommandName::Train
     } else {
         CommandName::Other
     }

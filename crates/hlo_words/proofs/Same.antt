@@ -5,7 +5,7 @@ use Rattle.std.specs.Str.Parse.{AllDigits, digits_value}
 use Rattle.std.proofs.lemmas.Fmt.{digits_value-decimal}
 use Rattle.std.proofs.lemmas.Str.Parse.{IsNumeralModel, numerals_by_value, tells_digits}
 use Rattle.clap.specs.Walk.{Row, Text, all_of, first_of}
-use Rattle.hlo_words.specs.Settings.{AreFiles, HasTurns, IsCheckSettings, IsNumberIn, IsOptSettings, IsRunIlSettings, IsRunSettings, IsValue}
+use Rattle.hlo_words.specs.Settings.{AreFiles, HasTurns, IsCheckSettings, IsNumberIn, IsOptSettings, IsRunIlSettings, IsRunSettings, IsSettingsOf, IsTrainSettings, IsValue}
 use Rattle.hlo_words.specs.declared.settings.CheckSettings.{CheckSettings}
 use Rattle.hlo_words.specs.declared.settings.OptSettings.{OptSettings}
 use Rattle.hlo_words.specs.declared.settings.RunIlSettings.{RunIlSettings}
@@ -45,12 +45,18 @@ same_check words s t a b =
     let files : s.files ≡ t.files = same_files b.rows _ _ (subst (λ r. AreFiles r s.files) rows a.files) b.files in
     λ i. record { files = files i }
 
-pub same_run : (words : List Text) (s t : RunSettings) → IsRunSettings words s → IsRunSettings words t → s ≡ t
-same_run words s t a b =
+pub same_settings : (name : Text) (words : List Text) (s t : RunSettings) → IsSettingsOf name words s → IsSettingsOf name words t → s ≡ t
+same_settings name words s t a b =
     let rows = a.read.found ∙ sym b.read.found in
-    let turns : s.turns ≡ t.turns = same_turns b.rows _ _ (subst (λ r. HasTurns r s.turns) rows a.turns) b.turns in
-    let files : s.files ≡ t.files = same_files b.rows _ _ (subst (λ r. AreFiles r s.files) rows a.files) b.files in
+    let turns : s.turns ≡ t.turns = same_turns b.rows _ _ (subst (λ r. HasTurns r s.turns) rows a.settings.turns) b.settings.turns in
+    let files : s.files ≡ t.files = same_files b.rows _ _ (subst (λ r. AreFiles r s.files) rows a.settings.files) b.settings.files in
     λ i. record { turns = turns i; files = files i }
+
+pub same_run : (words : List Text) (s t : RunSettings) → IsRunSettings words s → IsRunSettings words t → s ≡ t
+same_run words s t a b = same_settings (codes "run") words s t a b
+
+pub same_train : (words : List Text) (s t : RunSettings) → IsTrainSettings words s → IsTrainSettings words t → s ≡ t
+same_train words s t a b = same_settings (codes "train") words s t a b
 
 pub same_runil : (words : List Text) (s t : RunIlSettings) → IsRunIlSettings words s → IsRunIlSettings words t → s ≡ t
 same_runil words s t a b =

@@ -16,8 +16,10 @@ unfolding clap_on_literals
 mixed_says = record {
   rows = matches_of (turns_app (codes "run")) (codes "run" ∷ codes "a.c" ∷ codes "--turns" ∷ codes "5" ∷ codes "--" ∷ codes "-b" ∷ []);
   read = record { taken = refl; found = refl };
-  turns = record { spelled = sym (decimal_digit 5 (omega arith)); least = omega arith; most = omega arith };
-  files = record { given = refl; some = omega arith; most = omega arith };
+  settings = record {
+    turns = record { spelled = sym (decimal_digit 5 (omega arith)); least = omega arith; most = omega arith };
+    files = record { given = refl; some = omega arith; most = omega arith };
+  };
 }
 
 -- no turns are given

@@ -47,12 +47,23 @@ pub record IsCheckSettings (words : List Text) (s : CheckSettings) : Type 0 wher
   pub read : HasRead (files_app (codes "check")) words rows
   pub files : AreFiles rows s.files
 
--- the words of `run` say this
-pub record IsRunSettings (words : List Text) (s : RunSettings) : Type 0 where
-  pub rows : List Row
-  pub read : HasRead (turns_app (codes "run")) words rows
+-- a number of turns, and files
+pub record AreRunSettings (rows : List Row) (s : RunSettings) : Type 0 where
   pub turns : HasTurns rows s.turns
   pub files : AreFiles rows s.files
+
+-- the words of a command that runs modules say this
+pub record IsSettingsOf (name : Text) (words : List Text) (s : RunSettings) : Type 0 where
+  pub rows : List Row
+  pub read : HasRead (turns_app name) words rows
+  pub settings : AreRunSettings rows s
+
+-- the words of `run`, and those of `train`
+abbrev pub IsRunSettings : List Text → RunSettings → Type 0
+IsRunSettings words s = IsSettingsOf (codes "run") words s
+
+abbrev pub IsTrainSettings : List Text → RunSettings → Type 0
+IsTrainSettings words s = IsSettingsOf (codes "train") words s
 
 -- the words of `runil` say this: there is one file
 pub record IsRunIlSettings (words : List Text) (s : RunIlSettings) : Type 0 where

@@ -8,5 +8,5 @@ mod read;
 mod settings;
 
 pub use file_name::FileName;
-pub use read::{read_check, read_opt, read_run, read_runil};
+pub use read::{read_check, read_opt, read_run, read_runil, read_train};
 pub use settings::{CheckSettings, OptSettings, RunIlSettings, RunSettings, WordsFault};

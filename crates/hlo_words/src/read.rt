@@ -2,7 +2,7 @@
 ghost use Rattle.std.specs.Prelude.{◌≡◌, ℕ, List, [], ◌∷◌, IfOk, IfSome, IfNone, codes, map, string_bytes};
 ghost use Rattle.clap.specs.Matches.{found_of};
 ghost use Rattle.clap.specs.Walk.{all_of, rows_of};
-ghost use Rattle.hlo_words.specs.Settings.{AreFiles, HasTurns, IsCheckSettings, IsOptSettings, IsRunIlSettings, IsRunSettings};
+ghost use Rattle.hlo_words.specs.Settings.{AreFiles, HasTurns, IsCheckSettings, IsOptSettings, IsRunIlSettings, IsRunSettings, IsTrainSettings, AreRunSettings};
 ghost use Rattle.hlo_words.specs.declared.settings.CheckSettings.{CheckSettings};
 ghost use Rattle.hlo_words.specs.declared.settings.OptSettings.{OptSettings};
 ghost use Rattle.hlo_words.specs.declared.settings.RunIlSettings.{RunIlSettings};
@@ -57,10 +57,27 @@ pub fn read_run(alloc: Global, words: &[String]) -> Result<RunSettings, WordsFau
     ensures usage { result ≡ Err WordsFault.Usage → (s : RunSettings) → IsRunSettings (map string_bytes words.now) s → ⊥ }
 {
     let matches = read_turns(alloc, "run", words)?;
-    let Some(turns) = turns_of(&matches) else {
+    run_settings(alloc, &matches)
+}
+
+/// The settings of `train --turns N FILE...`, read as [`read_run`] says.
+pub fn read_train(alloc: Global, words: &[String]) -> Result<RunSettings, WordsFault>
+    ensures ok { IfOk result (IsTrainSettings (map string_bytes words.now)) }
+    ensures usage { result ≡ Err WordsFault.Usage → (s : RunSettings) → IsTrainSettings (map string_bytes words.now) s → ⊥ }
+{
+    let matches = read_turns(alloc, "train", words)?;
+    run_settings(alloc, &matches)
+}
+
+/// The turns and the files.
+fn run_settings(alloc: Global, matches: &ArgMatches<'_>) -> Result<RunSettings, WordsFault>
+    ensures ok { IfOk result (AreRunSettings (rows_of (found_of matches.now))) }
+    ensures usage { result ≡ Err WordsFault.Usage → (s : RunSettings) → AreRunSettings (rows_of (found_of matches.now)) s → ⊥ }
+{
+    let Some(turns) = turns_of(matches) else {
         return Err(WordsFault::Usage);
     };
-    let files = files_of(alloc, &matches)?;
+    let files = files_of(alloc, matches)?;
     Ok(RunSettings { turns, files })
 }
 

@@ -18,7 +18,7 @@ pub struct CheckSettings {
     pub files: Seq<FileName>,
 }
 
-/// What `run` is to do.
+/// What `run` and `train` are to do.
 #[derive(Drop)]
 pub struct RunSettings {
     /// How many turns the program may take.
