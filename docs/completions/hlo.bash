@@ -3,14 +3,20 @@ _hlo() {
   local word=${COMP_WORDS[COMP_CWORD]} before=${COMP_WORDS[COMP_CWORD - 1]} command=${COMP_WORDS[1]}
   COMPREPLY=()
   if [ "$COMP_CWORD" -eq 1 ]; then
-    mapfile -t COMPREPLY < <(compgen -W "check opt run runil --help --version" -- "$word")
+    mapfile -t COMPREPLY < <(compgen -W "check opt run train runil --help --version" -- "$word")
     return
   fi
   case $command in
-    run | runil)
+    run | train | runil)
       [ "$before" = --turns ] && return
       case $word in -*) mapfile -t COMPREPLY < <(compgen -W "--turns" -- "$word"); return ;; esac ;;
-    check | opt) ;;
+    opt)
+      if [ "$before" = --profile ]; then
+        mapfile -t COMPREPLY < <(compgen -f -- "$word")
+        return
+      fi
+      case $word in -*) mapfile -t COMPREPLY < <(compgen -W "--profile" -- "$word"); return ;; esac ;;
+    check) ;;
     *) return ;;
   esac
   local end=c

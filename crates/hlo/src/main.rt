@@ -14,19 +14,25 @@ use std::{env, io};
 use stream::Stream;
 
 const HELP: &str = "\
-usage: hlo opt FILE...              prints the IL of the program that the C modules in
+usage: hlo opt [--profile FILE] FILE...
+                                    prints the IL of the program that the C modules in
                                     the FILEs make
        hlo check FILE...            checks that they make a program, and prints nothing
        hlo run [--turns N] FILE...  runs that program on standard input and output
+       hlo train [--turns N] FILE...
+                                    runs it with its output dropped, and prints the
+                                    profile of its calls, whatever its ending
        hlo runil [--turns N] FILE   runs the program whose IL is in FILE
        hlo --help                   prints this text
        hlo --version                prints the version
 options: --turns N  at most N turns, 0 to 1000000000000 (1000000000 if not given): each
                     call and each way back to a loop's start takes one
+         --profile FILE  the counts of routines and calls are those of the profile in
+                    FILE, which train printed; without it each is 1
          1 to 64 FILEs; options may stand between them, and all words behind -- are FILEs
-status: 0 success, 2 usage, 3 refused file or program, 5 cannot read a file, 6 cannot
-        write, 10 out of memory, 11 cannot read input, 12 trap, 13 out of turns, 14 no
-        IL program
+status: 0 success, 2 usage, 3 refused file or program, 4 no profile, 5 cannot read a
+        file, 6 cannot write, 10 out of memory, 11 cannot read input, 12 trap, 13 out of
+        turns, 14 no IL program
 ";
 
 const VERSION: &str = "hlo 0.1.0";

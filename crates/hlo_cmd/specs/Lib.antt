@@ -3,6 +3,7 @@ pub mod Messages
 pub mod Modules
 pub mod Opt
 pub mod Printing
+pub mod Profiles
 pub mod Run
 pub mod RunIl
 pub mod Sizes

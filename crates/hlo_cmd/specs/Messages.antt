@@ -1,5 +1,6 @@
 -- The table of refusals: the status and the line of each, for all commands; and those of a program's ending.
 use Rattle.std.specs.Prelude.{ℕ, ◌-◌, ◌^◌, ◌⊎◌, ◌++◌, nat_lt, List, [], ◌∷◌, Option, take, if◌then◌else◌, codes, decimal, option_map, unwrap_or}
+use Rattle.std.specs.Borrow.{Bor}
 use Rattle.std.specs.Io.KnownBytes.{Appends}
 use Rattle.std.specs.List.{slice_get}
 use Rattle.c_lex.specs.declared.fault.LexKind.{LexKind}
@@ -31,6 +32,8 @@ use Rattle.outside.specs.Faults.{Rose}
 use Rattle.sym_tables.specs.Table.{Table}
 use Rattle.hlo_cmd.specs.declared.print.PrintFault.{PrintFault}
 use Rattle.hlo_cmd.specs.declared.print.PrintFault.TheVariants as print_fault
+use Rattle.hlo_cmd.specs.declared.profiles.ProfileFault.{ProfileFault}
+use Rattle.hlo_cmd.specs.declared.profiles.ProfileFault.TheVariants as profile_fault
 use Rattle.hlo_cmd.specs.declared.refusal.Refusal.{Refusal}
 use Rattle.hlo_cmd.specs.declared.refusal.Refusal.TheVariants as refusal
 use Rattle.hlo_cmd.specs.declared.refusal.TextFault.{TextFault}
@@ -141,6 +144,10 @@ link_line syms MainType = codes "hlo: link: MainType" ++ 10 ∷ []
 abbrev pub unread_line : List ℕ → List ℕ
 unread_line file = codes "hlo: cannot read " ++ (file ++ 10 ∷ [])
 
+-- the line that tells the first line of a profile that doesn't fit
+abbrev pub profile_line : ℕ → List ℕ
+profile_line n = codes "hlo: profile: line " ++ (decimal n ++ 10 ∷ [])
+
 -- the lines that name nothing
 abbrev pub usage_line : List ℕ
 usage_line = codes "hlo: usage" ++ 10 ∷ []
@@ -159,6 +166,7 @@ abbrev pub refusal_line : Table → Refusal → List ℕ
 refusal_line syms refusal.Usage = usage_line
 refusal_line syms (refusal.Module file fault) = module_line syms file.now fault
 refusal_line syms (refusal.Link fault) = link_line syms fault
+refusal_line syms (refusal.Profile line) = profile_line line
 refusal_line syms (refusal.Text fault) = text_line fault
 refusal_line syms (refusal.CannotRead file) = unread_line file.now
 refusal_line syms refusal.CannotWrite = unwritten_line
@@ -170,6 +178,7 @@ abbrev pub refusal_status : Refusal → ℕ
 refusal_status refusal.Usage = 2
 refusal_status (refusal.Module file fault) = 3
 refusal_status (refusal.Link fault) = 3
+refusal_status (refusal.Profile line) = 4
 refusal_status (refusal.Text fault) = 14
 refusal_status (refusal.CannotRead file) = 5
 refusal_status refusal.CannotWrite = 6
@@ -181,6 +190,11 @@ refusal_status refusal.Memory = 10
 abbrev pub words_refusal : WordsFault → Refusal
 words_refusal words_fault.Usage = refusal.Usage
 words_refusal words_fault.Memory = refusal.Memory
+
+abbrev pub profile_refusal : Bor (List ℕ) → ProfileFault → Refusal
+profile_refusal name (profile_fault.Line line) = refusal.Profile line
+profile_refusal name profile_fault.CannotRead = refusal.CannotRead name
+profile_refusal name profile_fault.Memory = refusal.Memory
 
 abbrev pub program_refusal : ProgramFault → Refusal
 program_refusal (program_fault.File file (file_fault.NoModule fault)) = refusal.Module file fault

@@ -58,7 +58,7 @@ fn write_exit<E: Sink>(err: &mut E, word: u32) -> Result<(), Failed>
 }
 
 /// Writes a line that ends in a number.
-fn write_number<E: Sink>(err: &mut E, front: &[u8], number: u32) -> Result<(), Failed>
+pub(crate) fn write_number<E: Sink>(err: &mut E, front: &[u8], number: u32) -> Result<(), Failed>
     ensures bytes { TakesAll (E.taken err.old) (E.taken err.new) result (front.now ++ (decimal number ++ 10 ∷ [])) }
     ensures cause { HasCause (E.faults err.old) (E.faults err.new) result }
 {

@@ -9,6 +9,7 @@ mod opt;
 mod pieces;
 mod plain;
 mod print;
+mod profiles;
 mod refusal;
 mod report;
 mod run;

@@ -4,6 +4,7 @@ ghost use Rattle.outside.specs.Faults.{HasCause};
 ghost use Rattle.outside.specs.Taken.{TakesAll};
 ghost use Rattle.hlo_cmd.specs.Messages.{Says, link_line, module_line, name_of, refusal_line, refusal_status, text_line};
 
+use crate::ending::write_number;
 use crate::kinds::{il_name, lexical_name, syntax_name, type_name};
 use crate::pieces::{write_place, write_three};
 use crate::refusal::{Refusal, TextFault};
@@ -31,6 +32,7 @@ fn tell<E: Sink>(err: &mut E, refusal: Refusal<'_>, syms: &ProgramSyms)
         Refusal::Usage => write_all(err, b"hlo: usage\n"),
         Refusal::Module(file, fault) => write_module_fault(err, syms, file.as_bytes(), fault),
         Refusal::Link(fault) => write_link_fault(err, syms, fault),
+        Refusal::Profile(line) => write_number(err, b"hlo: profile: line ", line),
         Refusal::Text(fault) => write_text_fault(err, fault),
         Refusal::CannotRead(file) => {
             write_three(err, b"hlo: cannot read ", file.as_bytes(), b"\n")

@@ -1,32 +1,33 @@
 //! The command `opt`.
-ghost use Rattle.std.specs.Prelude.{◌≡◌, ◌≢◌, ◌↔◌, ◌≤◌, ◌^◌, ℕ, List, IfOk, IfErr, MatchResult, IsSome, Some, None, Err, length, map, string_bytes};
+ghost use Rattle.std.specs.Prelude.{◌≡◌, ◌≢◌, ◌↔◌, ◌≤◌, ◌^◌, ℕ, List, IfOk, IfErr, IfSome, MatchResult, IsSome, Some, None, Err, length, map, string_bytes};
 ghost use Rattle.il_core.specs.Limits.{max_routines, max_size};
 ghost use Rattle.il_core.specs.Size as sizes;
 ghost use Rattle.outside.specs.Told.{SameFiles};
 ghost use Rattle.hlo_cmd.specs.Messages.{Says};
-ghost use Rattle.hlo_cmd.specs.Opt.{AsksOpt, OptPromise};
+ghost use Rattle.hlo_cmd.specs.Opt.{AsksNothing, AsksOpt, OptPromise};
 ghost use Rattle.hlo_cmd.specs.Words.{asked_command};
 ghost use Rattle.hlo_cmd.specs.declared.words.CommandName.TheVariants as command;
 
 use crate::messages::refused;
 use crate::print::print;
-use crate::refusal::{print_refusal, program_refusal, words_refusal};
+use crate::profiles::profile_for;
+use crate::refusal::{print_refusal, profile_refusal, program_refusal, words_refusal};
 use crate::report::{OptAnswer, Report, Status};
 use crate::words::{CommandName, asked_command};
 use c_module::lowered_program;
-use hlo_words::{OptSettings, WordsFault, read_opt};
+use hlo_words::{FileName, OptSettings, WordsFault, read_opt};
 use il_core::Routine;
 use outside::{Disk, Gate, Shelf, Sink};
-use profile::Profile;
 use std::alloc::Global;
 use sym_tables::ProgramSyms;
 
-/// Prints the IL of the program that modules make: `opt FILE...`, with one to 64 files.
+/// Prints the IL of the program that modules make: `opt FILE...`, with one to 64 files, and `--profile FILE` for the counts
+/// of its routines and calls, which are all 1 where no profile is named.
 ///
 /// At status 0 the text of the lowered program was put out: its head in one piece, each routine in one, and its last
 /// line. That program is valid, and prints, traps and ends as the linked modules do, for every input and every number
 /// of turns. Otherwise one line says on `err` why: 2 `hlo: usage`, 3 `hlo: FILE:LINE: KIND`, `hlo: FILE: TooLong`,
-/// `hlo: NAME: TooLarge` or `hlo: link: ..`, 5 `hlo: cannot read FILE`, 6 `hlo: cannot write`, 10 `hlo: out of memory`.
+/// `hlo: NAME: TooLarge` or `hlo: link: ..`, 4 `hlo: profile: line N` (0 where it has more than 16 MiB), 5 `hlo: cannot read FILE`, 6 `hlo: cannot write`, 10 `hlo: out of memory`.
 /// Any first word but `opt` is 2. A failed write on `err` changes no status. The disk isn't asked yet, and comes back as
 /// it was.
 ///
@@ -85,7 +86,14 @@ fn serve_opt<S: Shelf, O: Sink, E: Sink>(
         Err(fault) => return Err(refused(err, words_refusal(fault), &syms)),
     };
     let files = settings.files.as_slice();
-    let program = match lowered_program(alloc, files, shelf, &Profile::flat(), &mut syms) {
+    let profile = match profile_for(alloc, shelf, &settings.profile) {
+        Ok(profile) => profile,
+        Err(fault) => {
+            let refusal = profile_refusal(name_of(&settings.profile), fault);
+            return Err(refused(err, refusal, &syms));
+        }
+    };
+    let program = match lowered_program(alloc, files, shelf, &profile, &mut syms) {
         Ok(program) => program,
         Err(fault) => return Err(refused(err, program_refusal(fault), &syms)),
     };
@@ -97,14 +105,24 @@ fn serve_opt<S: Shelf, O: Sink, E: Sink>(
 
 /// The settings of `opt`, where the first word is that.
 fn opt_settings(alloc: Global, words: &[String]) -> Result<OptSettings, WordsFault>
-    ensures ok { IfOk result (λ s. AsksOpt (map string_bytes words.now) s.files) }
-    ensures usage { result ≡ Err WordsFault.Usage → (files : List (List ℕ)) → AsksOpt (map string_bytes words.now) files → ⊥ }
+    ensures ok { IfOk result (λ s. AsksOpt (map string_bytes words.now) s.profile s.files) }
+    ensures usage { result ≡ Err WordsFault.Usage → AsksNothing (map string_bytes words.now) }
     ensures other { asked_command (map string_bytes words.now) ≢ command.Opt → result ≡ Err WordsFault.Usage }
 {
     if asked_command(words) == CommandName::Opt {
         read_opt(alloc, words)
     } else {
         Err(WordsFault::Usage)
+    }
+}
+
+/// The name of the profile, or nothing where none is named.
+fn name_of(name: &Option<FileName>) -> &str
+    ensures { IfSome name.now (λ text. result.now ≡ text) }
+{
+    match name {
+        Some(name) => name.as_str(),
+        None => "",
     }
 }
 

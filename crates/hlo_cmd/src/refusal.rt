@@ -1,8 +1,9 @@
 //! Why a command doesn't do what its words ask for.
 ghost use Rattle.std.specs.Prelude.{◌≡◌};
-ghost use Rattle.hlo_cmd.specs.Messages.{print_refusal, program_refusal, refusal_status, run_refusal, words_refusal};
+ghost use Rattle.hlo_cmd.specs.Messages.{print_refusal, profile_refusal, program_refusal, refusal_status, run_refusal, words_refusal};
 
 use crate::print::PrintFault;
+use crate::profiles::ProfileFault;
 use c_module::{FileFault, ModuleFault, ProgramFault};
 use hlo_words::WordsFault;
 use il_run::RunFault;
@@ -27,6 +28,8 @@ pub(crate) enum Refusal<'a> {
     Module(&'a str, ModuleFault),
     /// The modules make no program.
     Link(LinkFault),
+    /// The first line of a profile that doesn't fit, from 1; 0 stands for a profile that is too long.
+    Profile(u32),
     /// What is wrong with the bytes of a file that should have a program's text.
     Text(TextFault),
     /// Reading this file failed.
@@ -47,6 +50,7 @@ impl<'a> Refusal<'a> {
         match self {
             Refusal::Usage => 2,
             Refusal::Module(_, _) | Refusal::Link(_) => 3,
+            Refusal::Profile(_) => 4,
             Refusal::CannotRead(_) => 5,
             Refusal::CannotWrite => 6,
             Refusal::Memory => 10,
@@ -63,6 +67,17 @@ pub(crate) fn words_refusal(fault: WordsFault) -> Refusal<'static>
     match fault {
         WordsFault::Usage => Refusal::Usage,
         WordsFault::Memory => Refusal::Memory,
+    }
+}
+
+/// Why there is no profile of that name.
+pub(crate) fn profile_refusal<'a>(name: &'a str, fault: ProfileFault) -> Refusal<'a>
+    ensures { result ≡ profile_refusal name.entry fault }
+{
+    match fault {
+        ProfileFault::Line(line) => Refusal::Profile(line),
+        ProfileFault::CannotRead => Refusal::CannotRead(name),
+        ProfileFault::Memory => Refusal::Memory,
     }
 }
 

@@ -39,8 +39,8 @@ only_text [] d one = absurd (omega (arith, one))
 only_text (x ∷ []) d one = refl
 only_text (x ∷ y ∷ vs) d one = absurd (omega (arith, one))
 
-pub first_given : (f : Found) (o : Option (Bor Text)) → option_map (λ s. s.now) o ≡ first_value f (codes "turns") → first_of (codes "turns") (rows_of f) ≡ option_map (λ s. s.now) o
-first_given f o e = sym (e ∙ first_value-rows f (codes "turns"))
+pub first_given : (name : Text) (f : Found) (o : Option (Bor Text)) → option_map (λ s. s.now) o ≡ first_value f name → first_of name (rows_of f) ≡ option_map (λ s. s.now) o
+first_given name f o e = sym (e ∙ first_value-rows f name)
 
 module _ (rows : List Row) (text : Text) (is : first_of (codes "turns") rows ≡ Some text) where
   -- the text that was given is in the range

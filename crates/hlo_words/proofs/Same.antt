@@ -36,8 +36,9 @@ same_files rows xs ys a b = same_some _ a.given b.given
 pub same_opt : (words : List Text) (s t : OptSettings) → IsOptSettings words s → IsOptSettings words t → s ≡ t
 same_opt words s t a b =
     let rows = a.read.found ∙ sym b.read.found in
+    let profile : s.profile ≡ t.profile = sym a.profile ∙ ap (first_of (codes "profile")) rows ∙ b.profile in
     let files : s.files ≡ t.files = same_files b.rows _ _ (subst (λ r. AreFiles r s.files) rows a.files) b.files in
-    λ i. record { files = files i }
+    λ i. record { profile = profile i; files = files i }
 
 pub same_check : (words : List Text) (s t : CheckSettings) → IsCheckSettings words s → IsCheckSettings words t → s ≡ t
 same_check words s t a b =

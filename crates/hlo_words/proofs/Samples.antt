@@ -1,12 +1,12 @@
 -- What the words of the commands say, at examples.
-use Rattle.std.proofs.Common.{◌≡◌, refl, sym, arith, [], ◌∷◌, codes}
+use Rattle.std.proofs.Common.{◌≡◌, refl, sym, arith, [], ◌∷◌, codes, Some}
 use Rattle.clap.specs.Faults.{fault_of}
 use Rattle.clap.specs.Simple.{matches_of}
 use Rattle.std.proofs.lemmas.Fmt.{decimal_digit}
 use Rattle.clap.proofs.OnLiterals.{clap_on_literals}
 use Rattle.clap.specs.declared.error.kind.ErrorKind.TheVariants.{ArgumentConflict, DisplayHelp, UnknownArgument}
-use Rattle.hlo_words.specs.Lines.{files_app, turns_app}
-use Rattle.hlo_words.specs.Settings.{IsRunSettings, IsRunIlSettings}
+use Rattle.hlo_words.specs.Lines.{files_app, profile_app, turns_app}
+use Rattle.hlo_words.specs.Settings.{IsOptSettings, IsRunSettings, IsRunIlSettings}
 
 -- files in their order, one of them behind `--`, and the turns between them
 
@@ -20,6 +20,17 @@ mixed_says = record {
     turns = record { spelled = sym (decimal_digit 5 (omega arith)); least = omega arith; most = omega arith };
     files = record { given = refl; some = omega arith; most = omega arith };
   };
+}
+
+-- a profile between files
+profiled_says : IsOptSettings (codes "opt" ∷ codes "a.c" ∷ codes "--profile" ∷ codes "p.txt" ∷ codes "b.c" ∷ [])
+    (record { profile = Some (codes "p.txt"); files = codes "a.c" ∷ codes "b.c" ∷ [] })
+unfolding clap_on_literals
+profiled_says = record {
+  rows = matches_of (profile_app (codes "opt")) (codes "opt" ∷ codes "a.c" ∷ codes "--profile" ∷ codes "p.txt" ∷ codes "b.c" ∷ []);
+  read = record { taken = refl; found = refl };
+  profile = refl;
+  files = record { given = refl; some = omega arith; most = omega arith };
 }
 
 -- no turns are given

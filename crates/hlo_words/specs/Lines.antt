@@ -9,6 +9,10 @@ use Rattle.clap.specs.declared.builder.action.ArgAction.TheVariants.{Set, Append
 abbrev pub turns_rule : Rule
 turns_rule = record (new_rule (codes "turns")) { long = Some (codes "turns"); action = Some Set }
 
+-- `--profile FILE`
+abbrev pub profile_rule : Rule
+profile_rule = record (new_rule (codes "profile")) { long = Some (codes "profile"); action = Some Set }
+
 -- `FILE...`
 abbrev pub files_rule : Rule
 files_rule = record (new_rule (codes "files")) { action = Some Append }
@@ -16,6 +20,10 @@ files_rule = record (new_rule (codes "files")) { action = Some Append }
 -- a command with files alone
 abbrev pub files_app : Text → App
 files_app name = with_rule (new_app name) files_rule
+
+-- a command with a profile and files
+abbrev pub profile_app : Text → App
+profile_app name = with_rule (with_rule (new_app name) profile_rule) files_rule
 
 -- a command with a number of turns, and files
 abbrev pub turns_app : Text → App

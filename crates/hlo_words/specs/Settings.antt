@@ -2,7 +2,7 @@
 use Rattle.std.specs.Prelude.{◌≡◌, ◌≤◌, ◌==◌, ◌||◌, ℕ, Bool, false, List, [], ◌∷◌, Option, Some, None, length, codes}
 use Rattle.std.specs.Fmt.{decimal}
 use Rattle.clap.specs.Walk.{Row, Text, all_of, first_of}
-use Rattle.hlo_words.specs.Lines.{HasRead, files_app, turns_app}
+use Rattle.hlo_words.specs.Lines.{HasRead, files_app, profile_app, turns_app}
 use Rattle.hlo_words.specs.declared.settings.CheckSettings.{CheckSettings}
 use Rattle.hlo_words.specs.declared.settings.OptSettings.{OptSettings}
 use Rattle.hlo_words.specs.declared.settings.RunIlSettings.{RunIlSettings}
@@ -38,7 +38,8 @@ pub record AreFiles (rows : List Row) (files : List Text) : Type 0 where
 -- the words of `opt` say this
 pub record IsOptSettings (words : List Text) (s : OptSettings) : Type 0 where
   pub rows : List Row
-  pub read : HasRead (files_app (codes "opt")) words rows
+  pub read : HasRead (profile_app (codes "opt")) words rows
+  pub profile : first_of (codes "profile") rows ≡ s.profile
   pub files : AreFiles rows s.files
 
 -- the words of `check` say this

@@ -1,7 +1,7 @@
 //! From words to settings.
 ghost use Rattle.std.specs.Prelude.{◌≡◌, ℕ, List, [], ◌∷◌, IfOk, IfSome, IfNone, codes, map, string_bytes};
 ghost use Rattle.clap.specs.Matches.{found_of};
-ghost use Rattle.clap.specs.Walk.{all_of, rows_of};
+ghost use Rattle.clap.specs.Walk.{all_of, first_of, rows_of};
 ghost use Rattle.hlo_words.specs.Settings.{AreFiles, HasTurns, IsCheckSettings, IsOptSettings, IsRunIlSettings, IsRunSettings, IsTrainSettings, AreRunSettings};
 ghost use Rattle.hlo_words.specs.declared.settings.CheckSettings.{CheckSettings};
 ghost use Rattle.hlo_words.specs.declared.settings.OptSettings.{OptSettings};
@@ -9,7 +9,7 @@ ghost use Rattle.hlo_words.specs.declared.settings.RunIlSettings.{RunIlSettings}
 ghost use Rattle.hlo_words.specs.declared.settings.RunSettings.{RunSettings};
 
 use crate::file_name::FileName;
-use crate::line::{read_files, read_turns};
+use crate::line::{read_files, read_profiled, read_turns};
 use crate::number::number_in;
 use crate::settings::{CheckSettings, OptSettings, RunIlSettings, RunSettings, WordsFault};
 use clap::ArgMatches;
@@ -25,7 +25,7 @@ const DEFAULT_TURNS: u64 = 1_000_000_000;
 /// The greatest number of turns.
 const MAX_TURNS: u64 = 1_000_000_000_000;
 
-/// The settings of `opt FILE...`.
+/// The settings of `opt --profile FILE FILE...`.
 ///
 /// The words are all those of the program, the command's name first; that one isn't looked at. They are read
 /// as clap reads a command with long options whose files stand last: a word behind `--` is a file, an option
@@ -35,9 +35,10 @@ pub fn read_opt(alloc: Global, words: &[String]) -> Result<OptSettings, WordsFau
     ensures ok { IfOk result (IsOptSettings (map string_bytes words.now)) }
     ensures usage { result ≡ Err WordsFault.Usage → (s : OptSettings) → IsOptSettings (map string_bytes words.now) s → ⊥ }
 {
-    let matches = read_files(alloc, "opt", words)?;
+    let matches = read_profiled(alloc, "opt", words)?;
+    let profile = profile_of(alloc, &matches)?;
     let files = files_of(alloc, &matches)?;
-    Ok(OptSettings { files })
+    Ok(OptSettings { profile, files })
 }
 
 /// The settings of `check FILE...`, read as [`read_opt`] says.
@@ -102,6 +103,16 @@ fn turns_of(matches: &ArgMatches<'_>) -> Option<u64>
     match matches.get_str("turns") {
         Some(text) => number_in(text, 0, MAX_TURNS),
         None => Some(DEFAULT_TURNS),
+    }
+}
+
+/// The name of the profile, if there is one.
+fn profile_of(alloc: Global, matches: &ArgMatches<'_>) -> Result<Option<FileName>, AllocError>
+    ensures { IfOk result (λ name. first_of (codes "profile") (rows_of (found_of matches.now)) ≡ name) }
+{
+    match matches.get_str("profile") {
+        Some(name) => Ok(Some(FileName::new(alloc, name)?)),
+        None => Ok(None),
     }
 }
 

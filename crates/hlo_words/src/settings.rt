@@ -7,6 +7,8 @@ use thiserror::Error;
 /// What `opt` is to do.
 #[derive(Drop)]
 pub struct OptSettings {
+    /// The profile, where the words name one.
+    pub profile: Option<FileName>,
     /// The modules, in the order of the words.
     pub files: Seq<FileName>,
 }

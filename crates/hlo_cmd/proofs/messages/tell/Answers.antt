@@ -19,3 +19,7 @@ returns-in-CannotReadInput g c = says _ _ _ _ _ _ _
 pub returns-in-Memory : goal.returns-in-Memory
 returns-in-Memory g c = says _ _ _ _ _ _ _
     (ap (refusal_line c.args.syms.now) (sym c.in-Memory.is)) c.write_all-in-Memory.ensures.bytes c.write_all-in-Memory.ensures.cause
+
+pub returns-in-Profile : goal.returns-in-Profile
+returns-in-Profile g c = says _ _ _ _ _ _ _
+    (ap (refusal_line c.args.syms.now) (sym c.in-Profile.is)) c.write_number.ensures.bytes c.write_number.ensures.cause
