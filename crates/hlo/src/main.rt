@@ -35,7 +35,8 @@ status: 0 success, 2 usage, 3 refused file or program, 4 no profile, 5 cannot re
         turns, 14 no IL program
 ";
 
-const VERSION: &str = "hlo 0.1.0";
+/// The version, and the toolchain that proved and built it.
+const VERSION: &str = "hlo 0.1.0, proved with rattle-kit-13f logic dac8208d650f15bf";
 
 fn main(rt: HostRuntime) -> ExitCode {
     match words_of(&rt) {
