@@ -16,7 +16,7 @@ use Rattle.outside.specs.Told.{Told, Holds}
 use Rattle.hlo_cmd.specs.Messages.{ending_status, refusal_status, words_refusal}
 use Rattle.hlo_cmd.specs.RunIl.{ComesTo, HasNoSettings, HoldsProgram, HoldsProgramFault, IsOnlyProgramText, IsProgramText, IsRunIlCause, RunIlPromise, RunsToEnd, outcome_status}
 use Rattle.hlo_cmd.specs.declared.refusal.Refusal.{Refusal}
-use Rattle.hlo_cmd.specs.declared.refusal.Refusal.TheVariants.{Usage, Module, Link, Text, CannotRead, CannotWrite, CannotReadInput, Memory}
+use Rattle.hlo_cmd.specs.declared.refusal.Refusal.TheVariants.{Usage, Module, Link, Profile, Text, CannotRead, CannotWrite, CannotReadInput, Memory}
 use Rattle.hlo_cmd.specs.declared.refusal.TextFault.{TextFault}
 use Rattle.hlo_cmd.proofs.Endings.{same_status}
 
@@ -50,6 +50,7 @@ module _ (name : List ℕ) (told : Told) (turns shelf shelf_now : ℕ) (left lef
     complete_outcome given output p e text is_left run calm calm_out (Err Usage) h = absurd h
     complete_outcome given output p e text is_left run calm calm_out (Err (Module file fault)) h = absurd h
     complete_outcome given output p e text is_left run calm calm_out (Err (Link fault)) h = absurd h
+    complete_outcome given output p e text is_left run calm calm_out (Err (Profile line)) h = absurd h
     complete_outcome given output p e text is_left run calm calm_out (Err (Text fault)) h = absurd (no_fault told bytes p fault is_told text h.0)
     complete_outcome given output p e text is_left run calm calm_out (Err (CannotRead file)) h = absurd (quiet h.1)
     complete_outcome given output p e text is_left run calm calm_out (Err CannotWrite) h = absurd (calm_out h.0)
@@ -62,6 +63,7 @@ module _ (name : List ℕ) (told : Told) (turns shelf shelf_now : ℕ) (left lef
     refused_outcome none (Err Usage) h = absurd h
     refused_outcome none (Err (Module file fault)) h = absurd h
     refused_outcome none (Err (Link fault)) h = absurd h
+    refused_outcome none (Err (Profile line)) h = absurd h
     refused_outcome none (Err (Text fault)) h = inl refl
     refused_outcome none (Err (CannotRead file)) h = absurd (quiet h.1)
     refused_outcome none (Err CannotWrite) h = absurd (none h.1.program (held_text told bytes h.1.program is_told h.1.held).text)

@@ -19,7 +19,7 @@ use Rattle.outside.specs.Told.{Told, Untold, Absent, Holds}
 use Rattle.hlo_cmd.specs.Messages.{ending_line, ending_status, refusal_line, refusal_status, words_refusal}
 use Rattle.hlo_cmd.specs.Sizes.{most_bytes}
 use Rattle.hlo_cmd.specs.declared.refusal.Refusal.{Refusal}
-use Rattle.hlo_cmd.specs.declared.refusal.Refusal.TheVariants.{Usage, Module, Link, Text, CannotRead, CannotWrite, CannotReadInput, Memory}
+use Rattle.hlo_cmd.specs.declared.refusal.Refusal.TheVariants.{Usage, Module, Link, Profile, Text, CannotRead, CannotWrite, CannotReadInput, Memory}
 use Rattle.hlo_cmd.specs.declared.refusal.TextFault.{TextFault}
 use Rattle.hlo_cmd.specs.declared.refusal.TextFault.TheVariants.{TooLong, At}
 
@@ -78,6 +78,7 @@ abbrev pub IsReadCause : Refusal → List ℕ → Told → ℕ → ℕ → Type 
 IsReadCause Usage name told shelf shelf_now = ⊥
 IsReadCause (Module file fault) name told shelf shelf_now = ⊥
 IsReadCause (Link fault) name told shelf shelf_now = ⊥
+IsReadCause (Profile line) name told shelf shelf_now = ⊥
 IsReadCause (Text fault) name told shelf shelf_now = HoldsProgramFault told fault
 IsReadCause (CannotRead file) name told shelf shelf_now = (file.now ≡ name) × Rose shelf shelf_now
 IsReadCause CannotWrite name told shelf shelf_now = ⊥
@@ -90,6 +91,7 @@ abbrev pub IsRunIlCause : Refusal → List ℕ → Told → ℕ → ℕ → ℕ 
 IsRunIlCause Usage name told turns shelf shelf_now left left_now input input_now before after out out_now = ⊥
 IsRunIlCause (Module file fault) name told turns shelf shelf_now left left_now input input_now before after out out_now = ⊥
 IsRunIlCause (Link fault) name told turns shelf shelf_now left left_now input input_now before after out out_now = ⊥
+IsRunIlCause (Profile line) name told turns shelf shelf_now left left_now input input_now before after out out_now = ⊥
 IsRunIlCause (Text fault) name told turns shelf shelf_now left left_now input input_now before after out out_now = HoldsProgramFault told fault
     × Keeps before after
 IsRunIlCause (CannotRead file) name told turns shelf shelf_now left left_now input input_now before after out out_now = (file.now ≡ name)
