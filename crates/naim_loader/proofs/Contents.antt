@@ -1,6 +1,6 @@
 -- What stands for the contents, and what a disk that comes back at the end has of them.
-use Rattle.std.proofs.Common.{◌≡◌, ◌≢◌, ℕ, zero, suc, ◌+◌, ◌*◌, ◌^◌, ◌<◌, ◌≤◌, Bool, true, false, cond, nat_eq, List, [], ◌∷◌, length, sum_by, get_or, not, true≢false, Option, Some, None, IsSome, refl, sym, ap, subst, arith, ◌∙◌}
-use Rattle.std.specs.Prelude.{IsTrue, count_by, is_none, is_some, map, option_map, slice_index, ◌==◌, ◌&&◌, ◌||◌, if◌then◌else◌}
+use Rattle.std.proofs.Common.{◌≡◌, ℕ, zero, suc, ◌+◌, ◌*◌, ◌^◌, ◌<◌, ◌≤◌, Bool, true, false, cond, nat_eq, List, [], ◌∷◌, length, sum_by, true≢false, Option, Some, None, IsSome, refl, sym, ap, subst, arith, ◌∙◌}
+use Rattle.std.specs.Prelude.{IsTrue, is_none, option_map, slice_index, ◌&&◌, if◌then◌else◌}
 use Rattle.std.specs.Cmp.{nat_eq_equiv}
 use Rattle.std.specs.List.{IsDistinct, list_all}
 use Rattle.std.specs.Map.{keys_of, values_of, lookup, remove_entry}
@@ -12,7 +12,7 @@ use Rattle.list_laws.proofs.Tests.{or_yes}
 use Rattle.list_laws.proofs.Entries.{distinct_removed, head_absent, lookup_removed, number_itself, same_number, sum_removed}
 use Rattle.repository.specs.Record.{HasBytes}
 use Rattle.naim_core.specs.Charges.{under_part, under_sum}
-use Rattle.naim_core.specs.Sound.{IsFitStage, IsSound, hands_with, movers, read_pins, wanted_by, write_pins}
+use Rattle.naim_core.specs.Sound.{IsFitStage, hands_with, movers, read_pins, wanted_by, write_pins}
 use Rattle.naim_core.specs.State.{Core, pool_at, is_empty_hand, holds}
 use Rattle.naim_core.specs.declared.pool.Pool.{Pool}
 use Rattle.naim_core.specs.declared.pool.Stage.{Stage}
@@ -25,11 +25,11 @@ use Rattle.naim_loader.specs.declared.table.Entry.{Entry}
 use Rattle.naim_loader.specs.Contents.{HasPool, StandsAt, StandsFor}
 use Rattle.naim_loader.specs.Forms.{is_filed}
 use Rattle.naim_loader.specs.Home.{told, is_home}
-use Rattle.naim_loader.specs.Paged.{Paged, kept_at, content_at, contents, IsGood, IsTrusted}
+use Rattle.naim_loader.specs.Paged.{Paged, content_at, contents, IsGood, IsTrusted}
 use Rattle.naim_loader.specs.Parts.{begins_with, is_part, is_told_part, untold_len}
-use Rattle.naim_loader.specs.Rows.{Kept, kept_in, kept_of}
+use Rattle.naim_loader.specs.Rows.{kept_in, kept_of}
 use Rattle.naim_loader.specs.Trails.{Lists}
-use Rattle.naim_loader.specs.Whole.{Standing, Stands, IsWhole}
+use Rattle.naim_loader.specs.Whole.{Stands, IsWhole}
 use Rattle.naim_loader.proofs.Views.{kept_lookup}
 
 -- a look-up in the contents as a list
@@ -46,7 +46,7 @@ module _ {X Y : Type 0} where
       let here = h r.0 r.1 first in let y = here.0 in let at = here.1 in let low = here.2 in
       let left = remove_entry (nat_eq r.0) ys in
       let rest : sum_by f (values_of xs) ≤ sum_by g (values_of left) =
-          sum_within f g xs left (IsDistinct-tail nat_eq r.0 (keys_of xs) dx) (distinct_removed r.0 ys dy) (λ p x e. others p x e (nat_eq r.0 p) refl) in
+      sum_within f g xs left (IsDistinct-tail nat_eq r.0 (keys_of xs) dx) (distinct_removed r.0 ys dy) (λ p x e. others p x e (nat_eq r.0 p) refl) in
       let total : sum_by f (values_of (r ∷ xs)) ≡ f r.1 + sum_by f (values_of xs) = sum_by-cons f r.1 (values_of xs) in
       let gone : sum_by g (values_of left) + g y ≡ sum_by g (values_of ys) = sum_removed g r.0 y ys at in
       omega arith
@@ -151,9 +151,12 @@ module _ {T B D : Type 0} (charge : T → ℕ) (spell : T → List ℕ) (is_valu
           let fit = s.forms_fit p x f.at in
           let readers : read_pins x.stage ≡ 0 = ap (wanted_by read_pins) (sym f.at) ∙ sym (s.readers p) ∙ none_hold (λ h. h.read) (λ h k. (empty_places h k).0) l.core.hands p idle in
           let writers : write_pins x.stage ≡ 0 = ap (wanted_by write_pins) (sym f.at) ∙ sym (s.writers p) ∙ none_hold (λ h. h.written) (λ h k. (empty_places h k).1) l.core.hands p idle in
-          let moving : movers x.stage ≡ 0 = ap (wanted_by movers) (sym f.at) ∙ sym (s.one_mover p) ∙ none_hold (λ h. h.moved) (λ h k. (empty_places h k).2) l.core.hands p idle in
-          (x, f.at, settled (is_told_part (bytes l.disk) (spell r)) x.stage x.e x.c (length (spell r)) readers writers moving fit.stage_fits fit.shorter f.stands.length_is
-            (λ k. told_part (bytes l.disk) (p * l.core.limit) (spell r) some (f.stands.filed none trusted k)))
+          let moving : movers x.stage ≡ 0 = ap (wanted_by movers) (sym f.at) ∙ sym (s.one_mover p) ∙ none_hold (λ h. h.moved) (λ h k. (empty_places h k).2) l.core.hands p idle in (
+            x,
+            f.at,
+            settled (is_told_part (bytes l.disk) (spell r)) x.stage x.e x.c (length (spell r)) readers writers moving fit.stage_fits fit.shorter f.stands.length_is
+                (λ k. told_part (bytes l.disk) (p * l.core.limit) (spell r) some (f.stands.filed none trusted k)),
+          )
 
   -- the loader stands for its contents
   pub whole_stands : (limit : ℕ) (core : Core) (rows : List (ℕ × Entry T B)) (disk : Home D) (first : D) (counters : Counters) (lists : Lists T) → IsWhole charge spell is_value bytes reach honest limit core rows disk first counters

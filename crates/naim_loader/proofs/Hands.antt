@@ -1,6 +1,6 @@
 -- What is handed out stands for the contents.
-use Rattle.std.proofs.Common.{◌≡◌, ◌≢◌, ℕ, ◌+◌, ◌*◌, ◌<◌, ◌≤◌, Bool, true, false, cond, nat_eq, List, length, Option, Some, None, Result, Ok, Err, refl, sym, ap, subst, ◌∙◌}
-use Rattle.std.specs.Prelude.{is_none, is_some, option_map, slice_set, unwrap_or, ◌||◌, if◌then◌else◌}
+use Rattle.std.proofs.Common.{◌≡◌, ℕ, ◌*◌, ◌<◌, Bool, true, false, cond, List, length, Option, Some, None, Result, Ok, Err, refl, sym, ap, subst, ◌∙◌}
+use Rattle.std.specs.Prelude.{is_none, option_map, slice_set, unwrap_or, if◌then◌else◌}
 use Rattle.std.specs.Arc.{arc_value}
 use Rattle.std.specs.Option.{option_map_or}
 use Rattle.std.proofs.lemmas.Option.{same_Some}
@@ -30,9 +30,9 @@ use Rattle.naim_loader.specs.declared.forms.Pin.{Pin}
 use Rattle.naim_loader.specs.declared.forms.Pin.TheVariants as pin
 use Rattle.naim_loader.specs.declared.forms.PinAnswer.TheVariants as answer
 use Rattle.naim_loader.specs.declared.forms.Evict.TheVariants as evict
-use Rattle.naim_loader.specs.Calls.{AnswersPin, IsPin, IsReload, stage_at}
-use Rattle.naim_loader.specs.Contents.{HasDisk, HasMoveOf, HasPin, HoldsAt, StandsFor}
-use Rattle.naim_loader.specs.Moves.{AnswersEvict, BeginsMove}
+use Rattle.naim_loader.specs.Calls.{AnswersPin, stage_at}
+use Rattle.naim_loader.specs.Contents.{HasDisk, HasMoveOf, HasPin, HoldsAt}
+use Rattle.naim_loader.specs.Moves.{AnswersEvict}
 use Rattle.naim_loader.specs.Paged.{Paged, content_at, IsGood, IsTrusted, Steps}
 use Rattle.naim_loader.proofs.Rows.{get_put}
 use Rattle.naim_loader.proofs.Wholes.{ran}
@@ -57,14 +57,14 @@ pin_read_hand : (s new : Core) (w p : ℕ) → s.failure ≡ None → w < length
 pin_read_hand s new w p none below h =
     let g = hand_at s.hands w in let after : Hand = record g { read = Some p } in
     let is = on_hands s p (λ x. Rows.pin_read_row x g) (λ x. record x { stage = Rows.with_reader x.stage }) (λ x y. record s { pools = front p y s.pools; hands = slice_set s.hands w after }) new (slice_set s.hands w after) (λ x y. refl)
-        (sym (running s (event.PinRead w p) none) ∙ h) in
+    (sym (running s (event.PinRead w p) none) ∙ h) in
     ap (λ z. (hand_at z w).read) is ∙ ap (λ z. z.read) (hand_now s.hands w after below)
 
 pin_write_hand : (s new : Core) (w p room : ℕ) → s.failure ≡ None → w < length s.hands → step_of s (event.PinWrite w p room) ≡ Ok new → (hand_at new.hands w).written ≡ Some p
 pin_write_hand s new w p room none below h =
     let g = hand_at s.hands w in let after : Hand = record g { written = Some p } in
     let is = on_hands s p (λ x. Rows.pin_write_row x g s.in_wave p room) (λ x. record x { stage = stage.Written room }) (λ x y. record s { pools = front p y s.pools; hands = slice_set s.hands w after }) new (slice_set s.hands w after)
-        (λ x y. refl) (sym (running s (event.PinWrite w p room) none) ∙ h) in
+    (λ x y. refl) (sym (running s (event.PinWrite w p room) none) ∙ h) in
     ap (λ z. (hand_at z w).written) is ∙ ap (λ z. z.written) (hand_now s.hands w after below)
 
 moved_now : (m : Mode) (p : ℕ) (g : Hand) → (take_pin m p g).moved ≡ Some p
@@ -75,22 +75,22 @@ reload_hand : (s new : Core) (w p : ℕ) (m : Mode) → s.failure ≡ None → w
 reload_hand s new w p m none below h =
     let g = hand_at s.hands w in
     let is = on_hands s p (λ x. Rows.reload_begin_row x g s.in_wave p m s.disk) (λ x. record x { stage = stage.Reloading m (is_offloaded x.stage) })
-        (λ x y. record s { pools = in_place p y s.pools; hands = slice_set s.hands w (take_pin m p g); disk = if is_offloaded x.stage then Some w else s.disk }) new (slice_set s.hands w (take_pin m p g)) (λ x y. refl)
-        (sym (running s (event.ReloadBegin w p m) none) ∙ h) in
+    (λ x y. record s { pools = in_place p y s.pools; hands = slice_set s.hands w (take_pin m p g); disk = if is_offloaded x.stage then Some w else s.disk }) new (slice_set s.hands w (take_pin m p g)) (λ x y. refl)
+    (sym (running s (event.ReloadBegin w p m) none) ∙ h) in
     ap (λ z. (hand_at z w).moved) is ∙ ap (λ z. z.moved) (hand_now s.hands w (take_pin m p g) below) ∙ moved_now m p g
 
 compact_hand : (s new : Core) (w p wanted : ℕ) → s.failure ≡ None → w < length s.hands → step_of s (event.CompactBegin w p wanted) ≡ Ok new → (hand_at new.hands w).moved ≡ Some p
 compact_hand s new w p wanted none below h =
     let g = hand_at s.hands w in let after : Hand = record g { moved = Some p } in
     let is = on_hands s p (λ x. Rows.compact_begin_row s.limit (under_sum s.pools) (victim s.pools) x g p wanted) (λ x. record x { stage = stage.Compacting }) (λ x y. record s { pools = in_place p y s.pools; hands = slice_set s.hands w after }) new
-        (slice_set s.hands w after) (λ x y. refl) (sym (running s (event.CompactBegin w p wanted) none) ∙ h) in
+    (slice_set s.hands w after) (λ x y. refl) (sym (running s (event.CompactBegin w p wanted) none) ∙ h) in
     ap (λ z. (hand_at z w).moved) is ∙ ap (λ z. z.moved) (hand_now s.hands w after below)
 
 offload_hand : (s new : Core) (w p wanted : ℕ) → s.failure ≡ None → w < length s.hands → step_of s (event.OffloadBegin w p wanted) ≡ Ok new → (hand_at new.hands w).moved ≡ Some p
 offload_hand s new w p wanted none below h =
     let g = hand_at s.hands w in let after : Hand = record g { moved = Some p } in
     let is = on_hands s p (λ x. Rows.offload_begin_row s.limit (under_sum s.pools) (victim s.pools) x g p wanted s.disk) (λ x. record x { stage = stage.Offloading })
-        (λ x y. record s { pools = in_place p y s.pools; hands = slice_set s.hands w after; disk = Some w }) new (slice_set s.hands w after) (λ x y. refl) (sym (running s (event.OffloadBegin w p wanted) none) ∙ h) in
+    (λ x y. record s { pools = in_place p y s.pools; hands = slice_set s.hands w after; disk = Some w }) new (slice_set s.hands w after) (λ x y. refl) (sym (running s (event.OffloadBegin w p wanted) none) ∙ h) in
     ap (λ z. (hand_at z w).moved) is ∙ ap (λ z. z.moved) (hand_now s.hands w after below)
 
 read_now : (st : Stage) → is_read (Rows.with_reader st) ≡ true
@@ -170,12 +170,16 @@ module _ {T B D : Type 0} (charge : T → ℕ) (spell : T → List ℕ) (bytes :
       let limit = e.turned.limit_is in
       let lies : e.pool.stage ≡ stage.Offloaded = same_Some e.pool.stage stage.Offloaded (sym (ap (option_map (λ z. z.stage)) e.at) ∙ a.1.1) in
       let out : new.core.disk ≡ Some w = e.turned.disk_is ∙ ap (λ z. if is_offloaded z then Some w else old.core.disk) lies in
-      let trusted : IsTrusted reach honest new → IsTrusted reach honest old = λ g. subst (λ n. IsGood reach honest n old.first) limit (subst (IsGood reach honest new.core.limit) (ap (λ z. z.first) t.same) g) in
-      (r, ((m, subst (λ z. HoldsAt new w z (λ h. h.moved) (λ st. st ≡ stage.Reloading m true) r) (sym same) (reload_holds old new w p m stage.Offloaded true r sound below t a.1.1 refl rec.content)),
-        is ∙ (λ i. record_of (sym same i * sym limit i) (spell r)),
-        rec.charge_is,
-        (λ g. subst (λ z. HasBytes (bytes d) (z * new.core.limit) (spell r)) (sym same) (subst (λ n. HasBytes (bytes d) (p * n) (spell r)) (sym limit) (rec.there (trusted g)))),
-        disk_lent old new (event.ReloadBegin w p m) w d good t out limit rec.disk_is))
+      let trusted : IsTrusted reach honest new → IsTrusted reach honest old = λ g. subst (λ n. IsGood reach honest n old.first) limit (subst (IsGood reach honest new.core.limit) (ap (λ z. z.first) t.same) g) in (
+        r,
+        (
+          (m, subst (λ z. HoldsAt new w z (λ h. h.moved) (λ st. st ≡ stage.Reloading m true) r) (sym same) (reload_holds old new w p m stage.Offloaded true r sound below t a.1.1 refl rec.content)),
+          is ∙ (λ i. record_of (sym same i * sym limit i) (spell r)),
+          rec.charge_is,
+          (λ g. subst (λ z. HasBytes (bytes d) (z * new.core.limit) (spell r)) (sym same) (subst (λ n. HasBytes (bytes d) (p * n) (spell r)) (sym limit) (rec.there (trusted g)))),
+          disk_lent old new (event.ReloadBegin w p m) w d good t out limit rec.disk_is,
+        ),
+      )
   reload_handed old new w p m (move.Compacting q b) sound good below a = absurd a.1
   reload_handed old new w p m (move.Offloading q place b d) sound good below a = absurd a.1
 
@@ -184,20 +188,32 @@ module _ {T B D : Type 0} (charge : T → ℕ) (spell : T → List ℕ) (bytes :
       → AnswersEvict spell old new w wanted (evict.Begun x) → (r : T) × HasMoveOf charge spell bytes reach honest new w x r
   move_handed old new w wanted (move.Compacting p a) sound good below b =
       let t = b.1.1 in let none = ran old.core new.core (event.CompactBegin w p wanted) refl t.step in
-      let d = compact_begin_did old.core new.core w p wanted sound none t.step in
-      (arc_value a, (record {
-        hand = compact_hand old.core new.core w p wanted none below t.step;
-        pool = (record d.pool { stage = stage.Compacting }, pool_now old.core new.core p _ _ _ d, refl);
-        content = content_kept old new (event.CompactBegin w p wanted) p (arc_value a) t b.1.2;
-      }, refl))
+      let d = compact_begin_did old.core new.core w p wanted sound none t.step in (
+        arc_value a,
+        (
+          record {
+            hand = compact_hand old.core new.core w p wanted none below t.step;
+            pool = (record d.pool { stage = stage.Compacting }, pool_now old.core new.core p _ _ _ d, refl);
+            content = content_kept old new (event.CompactBegin w p wanted) p (arc_value a) t b.1.2;
+          },
+          refl,
+        ),
+      )
   move_handed old new w wanted (move.Offloading p place v d) sound good below b =
       let t = b.1.1 in let none = ran old.core new.core (event.OffloadBegin w p wanted) refl t.step in
       let e = offload_begin_did old.core new.core w p wanted sound none t.step in
-      let r = b.1.5.0 in
-      (r, (record {
-        hand = offload_hand old.core new.core w p wanted none below t.step;
-        pool = (record e.pool { stage = stage.Offloading }, pool_now old.core new.core p _ _ _ e, refl);
-        content = content_kept old new (event.OffloadBegin w p wanted) p r t b.1.5.1;
-      }, b.1.2 ∙ ap (λ n. p * n) (sym e.turned.limit_is), b.1.5.2, disk_lent old new (event.OffloadBegin w p wanted) w d good t e.turned.disk_is e.turned.limit_is b.1.3))
+      let r = b.1.5.0 in (
+        r,
+        (
+          record {
+            hand = offload_hand old.core new.core w p wanted none below t.step;
+            pool = (record e.pool { stage = stage.Offloading }, pool_now old.core new.core p _ _ _ e, refl);
+            content = content_kept old new (event.OffloadBegin w p wanted) p r t b.1.5.1;
+          },
+          b.1.2 ∙ ap (λ n. p * n) (sym e.turned.limit_is),
+          b.1.5.2,
+          disk_lent old new (event.OffloadBegin w p wanted) w d good t e.turned.disk_is e.turned.limit_is b.1.3,
+        ),
+      )
   move_handed old new w wanted (move.FromBytes p v) sound good below b = absurd b.1
   move_handed old new w wanted (move.FromDisk p filed number d) sound good below b = absurd b.1

@@ -1,7 +1,6 @@
 use Rattle.std.proofs.Common.{subst}
 use Rattle.naim_loader.specs.Contents.{StandsFor}
 use Rattle.naim_loader.proofs.Contents.{whole_stands}
-use Rattle.naim_loader.proofs.Hands.{pin_handed, reload_handed, move_handed}
 use Rattle.naim_loader.proofs.loader.Loader.failure.Goals as goal
 
 pub returns-clause-stands : goal.returns-clause-stands
