@@ -1,5 +1,5 @@
 -- Moves end.
-use Rattle.std.proofs.Common.{◌≡◌, ◌≢◌, ℕ, ◌+◌, ◌*◌, ◌<◌, ◌≤◌, Bool, true, false, cond, nat_eq, List, [], ◌∷◌, length, Option, Some, None, Err, Vec, refl, sym, ap, subst, arith, ◌∙◌, ◌⊎◌, inl, inr}
+use Rattle.std.proofs.Common.{◌≡◌, ℕ, ◌+◌, ◌*◌, ◌≤◌, Bool, true, false, cond, nat_eq, List, [], ◌∷◌, length, Option, Some, None, Err, Vec, refl, sym, ap, subst, arith, ◌∙◌, ◌⊎◌, inl, inr}
 use Rattle.std.specs.Prelude.{is_none, is_some, not, unwrap_or, ◌&&◌, ◌||◌, if◌then◌else◌}
 use Rattle.std.specs.declared.alloc.Global.{Global}
 use Rattle.std.specs.declared.snapshot.Snapshot.{Snapshot}
@@ -40,7 +40,7 @@ use Rattle.naim_loader.specs.Paged.{Paged, content_at, IsGood, IsTrusted}
 use Rattle.naim_loader.specs.Rows.{Puts, Resets}
 use Rattle.naim_loader.specs.Whole.{Standing, IsWhole}
 use Rattle.naim_loader.proofs.Homes.{comes_good}
-use Rattle.naim_loader.proofs.Wholes.{There, there, whole_moved, whole_turned}
+use Rattle.naim_loader.proofs.Wholes.{there, whole_moved, whole_turned}
 
 -- the end of a move that the worker has isn't refused
 held : (o : Option ℕ) (p : ℕ) (b : Bool) (x : Pool) (g : Pool → Core) (r : Refusal) → o ≡ Some p → b ≡ true → then_state (permit ((not (holds o p && b), NotHeld) ∷ []) x) g ≡ Err r → ⊥

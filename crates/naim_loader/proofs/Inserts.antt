@@ -8,7 +8,6 @@ use Rattle.std.proofs.lemmas.Map.Made.{is_some-lookup}
 use Rattle.std.proofs.lemmas.Map.Steps.{length-le_from_keys}
 use Rattle.std.proofs.lemmas.Bool.Decides.{nat_tests}
 use Rattle.std.proofs.lemmas.List.{length-map}
-use Rattle.std.proofs.lemmas.Option.{same_Some}
 use Rattle.naim_core.specs.Charges.{under_sum}
 use Rattle.naim_core.specs.Rows
 use Rattle.naim_core.specs.Sound.{IsSound, RecordsApart}
@@ -34,7 +33,7 @@ use Rattle.naim_loader.specs.Paged.{IsGood}
 use Rattle.naim_loader.specs.Rows.{Renews, kept_in, kept_of}
 use Rattle.naim_loader.specs.Whole.{Stands, IsWhole}
 use Rattle.naim_loader.proofs.Views.{kept_lookup}
-use Rattle.naim_loader.proofs.Wholes.{whole_turned, peak_kept}
+use Rattle.naim_loader.proofs.Wholes.{whole_turned}
 
 -- where nothing is kept, there is no entry
 pub row_absent : {T B : Type 0} (rows : List (ℕ × Entry T B)) (p : ℕ) → lookup (nat_eq p) (kept_in rows) ≡ None → lookup (nat_eq p) rows ≡ None

@@ -1,6 +1,8 @@
+pub mod Contents
 pub mod Ends
 pub mod Events
 pub mod Evictions
+pub mod Hands
 pub mod Homes
 pub mod Inserts
 pub mod Reloads

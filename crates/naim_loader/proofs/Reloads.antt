@@ -27,7 +27,7 @@ use Rattle.naim_loader.specs.declared.table.Lying.{Lying}
 use Rattle.naim_loader.specs.declared.table.Lying.TheVariants as lying
 use Rattle.naim_loader.specs.declared.forms.Move.TheVariants as move
 use Rattle.naim_loader.specs.declared.forms.PinAnswer.TheVariants as answer
-use Rattle.naim_loader.specs.Calls.{Allows, AnswersPin}
+use Rattle.naim_loader.specs.Calls.{Allows, AnswersPin, stage_at}
 use Rattle.naim_loader.specs.Counting.{Stepped}
 use Rattle.naim_loader.specs.Forms.{LiesAs, is_filed}
 use Rattle.naim_loader.specs.Home.{told, is_home}
@@ -185,18 +185,19 @@ module _ {T B D : Type 0} (charge : T → ℕ) (spell : T → List ℕ) (is_valu
 
 module _ {T B D : Type 0} (charge : T → ℕ) (spell : T → List ℕ) (bytes : D → Option (List ℕ)) (reach : D → ℕ) (honest : D → Bool) where
   pub answers_packed : (old v : Paged T B D) (w p : ℕ) (m : Mode) (b : Vec ℕ Global) (r : T) (new : Core) (after : Counters) (kept : List (ℕ × Kept T B)) (d : D) (home : Bool) → v ≡ old → Stepped v.core (event.ReloadBegin w p m) new v.counters after → kept ≡ v.kept
-      → d ≡ v.disk → home ≡ is_none new.disk → content_at v p ≡ Some r → b.items ≡ spell r
+      → d ≡ v.disk → home ≡ is_none new.disk → stage_at v p ≡ Some stage.Compacted → content_at v p ≡ Some r → b.items ≡ spell r
       → AnswersPin charge spell bytes reach honest old (record { core = new; kept = kept; disk = d; home = home; first = v.first; counters = after; trail = v.trail }) w p m (answer.Reload (move.FromBytes p b))
-  answers_packed old v w p m b r new after kept d home e t k same h at is = (steps_view old v (event.ReloadBegin w p m) new after kept d home e t k same h, (refl, (r, ap (λ z. content_at z p) (sym e) ∙ at, is)))
+  answers_packed old v w p m b r new after kept d home e t k same h lay at is = (steps_view old v (event.ReloadBegin w p m) new after kept d home e t k same h, (refl, ap (λ z. stage_at z p) (sym e) ∙ lay, (r, ap (λ z. content_at z p) (sym e) ∙ at, is)))
 
   pub answers_stored : (old v : Paged T B D) (w p : ℕ) (m : Mode) (f : Filed) (number : ℕ) (lent : D) (r : T) (new : Core) (after : Counters) (kept : List (ℕ × Kept T B)) (d : D) (home : Bool) → v ≡ old → Stepped v.core (event.ReloadBegin w p m) new v.counters after
-      → kept ≡ v.kept → d ≡ v.disk → home ≡ is_none new.disk → content_at v p ≡ Some r → f ≡ record_of (p * v.core.limit) (spell r) → number ≡ charge r → lent ≡ v.disk → p * v.core.limit + length (spell r) ≤ 131072 * v.core.limit
+      → kept ≡ v.kept → d ≡ v.disk → home ≡ is_none new.disk → stage_at v p ≡ Some stage.Offloaded → content_at v p ≡ Some r → f ≡ record_of (p * v.core.limit) (spell r) → number ≡ charge r → lent ≡ v.disk → p * v.core.limit + length (spell r) ≤ 131072 * v.core.limit
       → (IsTrusted reach honest v → HasBytes (bytes lent) (p * v.core.limit) (spell r))
       → AnswersPin charge spell bytes reach honest old (record { core = new; kept = kept; disk = d; home = home; first = v.first; counters = after; trail = v.trail }) w p m (answer.Reload (move.FromDisk p f number lent))
-  answers_stored old v w p m f number lent r new after kept d home e t k same h at is n l within there = (
+  answers_stored old v w p m f number lent r new after kept d home e t k same h lay at is n l within there = (
     steps_view old v (event.ReloadBegin w p m) new after kept d home e t k same h,
     (
       refl,
+      ap (λ z. stage_at z p) (sym e) ∙ lay,
       (
         r,
         is ∙ ap (λ z. record_of (p * z.core.limit) (spell r)) e,

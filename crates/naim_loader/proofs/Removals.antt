@@ -1,5 +1,5 @@
 -- A row is taken out of the table, and the last one takes its place; a pool goes.
-use Rattle.std.proofs.Common.{◌≡◌, ◌≢◌, ℕ, ◌+◌, ◌-◌, ◌<◌, ◌≤◌, Bool, true, false, cond, nat_eq, List, [], ◌∷◌, length, get_or, Option, Some, None, IsSome, refl, sym, ap, subst, arith, ◌∙◌, ◌⊎◌, inl, inr}
+use Rattle.std.proofs.Common.{◌≡◌, ◌≢◌, ℕ, ◌+◌, ◌-◌, ◌<◌, ◌≤◌, Bool, true, false, cond, nat_eq, List, ◌∷◌, length, get_or, Option, Some, None, IsSome, refl, sym, ap, subst, arith, ◌∙◌, ◌⊎◌, inl, inr}
 use Rattle.std.specs.Cmp.{nat_eq_equiv}
 use Rattle.std.specs.List.{IsDistinct, slice_get, slice_set, swap_remove}
 use Rattle.std.specs.List.Sorted.{IsPermutation}
@@ -8,13 +8,13 @@ use Rattle.std.proofs.lemmas.Bool.Decides.{eqb_tells}
 use Rattle.std.proofs.lemmas.List.{length-set}
 use Rattle.std.proofs.lemmas.List.Sorted.{IsPermutation-map, IsPermutation-swap_remove, IsPermutation-sym, Contains-permutation, length_permutation}
 use Rattle.std.proofs.lemmas.Map.Entries.{lookup_from_place}
-use Rattle.std.proofs.lemmas.Map.Keys.{IsDistinct-IsPermutation, IsDistinct-head, IsDistinct-tail}
+use Rattle.std.proofs.lemmas.Map.Keys.{IsDistinct-IsPermutation, IsDistinct-tail}
 use Rattle.std.proofs.lemmas.Map.Views.{Contains-from_lookup, lookup-from_Contains}
 use Rattle.std.proofs.lemmas.Option.{slice_get_within, slice_get_read, get_or_from_slice_get, some_pair_parts}
 use Rattle.naim_core.specs.State.{Core}
 use Rattle.naim_core.specs.declared.event.Event.TheVariants as event
 use Rattle.naim_core.proofs.Effects.{remove_did}
-use Rattle.list_laws.proofs.Entries.{same_number, number_itself, other_number, head_absent}
+use Rattle.list_laws.proofs.Entries.{same_number, number_itself, head_absent}
 use Rattle.naim_loader.specs.declared.counters.Counters.{Counters}
 use Rattle.naim_loader.specs.declared.home.Home.{Home}
 use Rattle.naim_loader.specs.declared.table.Entry.{Entry}

@@ -9,14 +9,14 @@ use Rattle.naim_core.specs.declared.event.Event.{Event}
 use Rattle.naim_loader.specs.declared.counters.Counters.{Counters}
 use Rattle.naim_loader.specs.declared.table.Entry.{Entry}
 use Rattle.naim_loader.specs.Counting.{Stepped}
-use Rattle.naim_loader.specs.Paged.{Paged, kept_at, content_at, Changes, Steps}
+use Rattle.naim_loader.specs.Paged.{Paged, kept_at, content_at, contents, Changes, Steps}
 use Rattle.naim_core.specs.declared.event.Event.TheVariants as event
 use Rattle.naim_core.specs.declared.event.Form.{Form}
 use Rattle.naim_loader.specs.Calls.{Back, Inserts, Removes, Writes, brought}
 use Rattle.naim_loader.specs.Drafts.{draft_value, draft_form}
 use Rattle.naim_loader.specs.declared.forms.Draft.{Draft}
 use Rattle.naim_loader.specs.Rows.{Kept, Renews, kept_of, kept_in}
-use Rattle.naim_loader.specs.Trails.{Lists}
+use Rattle.naim_loader.specs.Trails.{History, Lists}
 
 pub kept_lookup : {T B : Type 0} (rows : List (ℕ × Entry T B)) (q : ℕ) → lookup (nat_eq q) (kept_in rows) ≡ option_map kept_of (lookup (nat_eq q) rows)
 kept_lookup rows q = lookup-map_values kept_of (nat_eq q) rows
@@ -99,3 +99,16 @@ module _ {T B D : Type 0} where
       by : (o : Option D) → d ≡ unwrap_or o v.disk → home ≡ (is_some o || v.home) → record v { disk = d; home = home } ≡ brought v o
       by None a h = λ i. record v { disk = a i; home = h i }
       by (Some x) a h = λ i. record v { disk = a i; home = h i }
+
+  -- a mark was made
+  pub marked_view : (old v : Paged T B D) (trail : Lists T) → v ≡ old → trail ≡ record v.trail { programs = v.trail.programs ++ contents v ∷ [] }
+      → record v { trail = trail } ≡ record old { trail = record old.trail { programs = old.trail.programs ++ contents old ∷ [] } }
+  marked_view old v trail e t = (let noted : Paged T B D → Paged T B D = λ z. record z { trail = record z.trail { programs = z.trail.programs ++ contents z ∷ [] } } in (λ i. record v { trail = t i }) ∙ ap noted e)
+
+  -- the trail of a loader that ends
+  pub ended_view : (old v : Paged T B D) (limit : ℕ) (h : History T) → v ≡ old → v.core.limit ≡ limit → h ≡ record { limit = limit; counters = v.counters; lists = v.trail }
+      → h ≡ record { limit = old.core.limit; counters = old.counters; lists = old.trail }
+  ended_view old v limit h e l k =
+      let seen : Paged T B D → History T = λ z. record { limit = z.core.limit; counters = z.counters; lists = z.trail } in
+      let same : record { limit = limit; counters = v.counters; lists = v.trail } ≡ seen v = λ i. record { limit = sym l i; counters = v.counters; lists = v.trail } in
+      k ∙ same ∙ ap seen e

@@ -1,9 +1,8 @@
 -- Waves begin and end, and tasks are claimed.
 use Rattle.std.proofs.Common.{◌≡◌, ℕ, zero, suc, ◌<◌, Bool, true, false, List, [], ◌∷◌, length, nat_eq, Option, Some, None, Ok, Err, refl, sym, ap, subst, ◌∙◌, ◌⊎◌, inl, inr, arith}
-use Rattle.std.specs.Prelude.{is_none, is_some, not, slice_get, slice_set, unwrap_or, drop, ◌==◌, ◌||◌, if◌then◌else◌}
-use Rattle.std.specs.List.{list_all, list_any}
+use Rattle.std.specs.Prelude.{is_none, is_some, slice_get, slice_set, drop, ◌==◌, if◌then◌else◌}
 use Rattle.naim_core.specs.Rows
-use Rattle.naim_core.specs.State.{Core, hand_at, empty_hand}
+use Rattle.naim_core.specs.State.{Core, hand_at}
 use Rattle.naim_core.specs.Steps.{permit, with_hand, step_of}
 use Rattle.naim_core.specs.declared.event.Event.TheVariants as event
 use Rattle.naim_core.specs.declared.event.Failure.{Failure}

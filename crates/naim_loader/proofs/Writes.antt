@@ -1,9 +1,7 @@
 -- Pins for writing: a body is handed out, and a new value comes in its place.
 use denote.Enum.Bare.{sameb}
-use Rattle.std.proofs.Common.{◌≡◌, ℕ, ◌+◌, ◌*◌, ◌<◌, ◌≤◌, ◌^◌, Bool, true, false, List, [], ◌∷◌, ◌++◌, length, Option, Some, None, IsSome, Result, Ok, Err, refl, sym, ap, subst, arith, ◌∙◌, ◌⊎◌, inl, inr}
-use Rattle.std.specs.Prelude.{is_none, is_some, nat_lt, not, option_map, ◌&&◌, ◌||◌, if◌then◌else◌}
-use Rattle.std.specs.Map.{lookup}
-use Rattle.std.proofs.lemmas.Bool.Decides.{nat_tests}
+use Rattle.std.proofs.Common.{◌≡◌, ℕ, ◌+◌, ◌<◌, ◌≤◌, ◌^◌, Bool, true, false, List, [], ◌∷◌, ◌++◌, length, Option, Some, None, IsSome, Err, refl, sym, ap, subst, arith, ◌∙◌, ◌⊎◌, inl, inr}
+use Rattle.std.specs.Prelude.{is_some, nat_lt, not, option_map, ◌&&◌, ◌||◌, if◌then◌else◌}
 use Rattle.std.proofs.lemmas.Option.{same_Some}
 use Rattle.naim_core.specs.Charges.{under_sum}
 use Rattle.naim_core.specs.Rows
@@ -30,7 +28,7 @@ use Rattle.naim_loader.specs.declared.table.Lying.{Lying}
 use Rattle.naim_loader.specs.declared.table.Lying.TheVariants as lying
 use Rattle.naim_loader.specs.Calls.{Allows}
 use Rattle.naim_loader.specs.Counting.{Stepped}
-use Rattle.naim_loader.specs.Forms.{LiesAs, LiesIn, is_filed}
+use Rattle.naim_loader.specs.Forms.{LiesIn, is_filed}
 use Rattle.naim_loader.specs.Rows.{Puts, Renews}
 use Rattle.naim_loader.specs.Whole.{IsWhole}
 use Rattle.naim_loader.proofs.Inserts.{placed_whole}

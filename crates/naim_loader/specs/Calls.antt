@@ -5,7 +5,7 @@ use Rattle.repository.specs.Record.{HasBytes}
 use Rattle.repository.specs.Filing.{record_of}
 use Rattle.naim_core.specs.Charges.{room_of}
 use Rattle.naim_core.specs.Rows
-use Rattle.naim_core.specs.State.{Core, hand_at}
+use Rattle.naim_core.specs.State.{Core, hand_at, pool_at}
 use Rattle.naim_core.specs.Steps.{step_of, failed}
 use Rattle.naim_core.specs.declared.event.Event.{Event}
 use Rattle.naim_core.specs.declared.event.Event.TheVariants as event
@@ -16,6 +16,8 @@ use Rattle.naim_core.specs.declared.event.Form.TheVariants as form
 use Rattle.naim_core.specs.declared.event.Mode.{Mode}
 use Rattle.naim_core.specs.declared.event.Mode.TheVariants as mode
 use Rattle.naim_core.specs.declared.event.Refusal.TheVariants as refusal
+use Rattle.naim_core.specs.declared.pool.Stage.{Stage}
+use Rattle.naim_core.specs.declared.pool.Stage.TheVariants as stage
 use Rattle.naim_loader.specs.declared.forms.Draft.{Draft}
 use Rattle.naim_loader.specs.declared.forms.Move.{Move}
 use Rattle.naim_loader.specs.declared.forms.Move.TheVariants as move
@@ -36,6 +38,10 @@ use Rattle.naim_loader.specs.Rows.{Kept}
 -- what is kept of p is now k, and of every other pool what it was
 abbrev pub KeepsAt : {T B D : Type 0} → Paged T B D → Paged T B D → ℕ → Option (Kept T B) → Type 0
 KeepsAt old new p k = (q : ℕ) → kept_at new q ≡ cond (nat_eq p q) k (kept_at old q)
+
+-- the stage of the pool p
+abbrev pub stage_at : {T B D : Type 0} → Paged T B D → ℕ → Option Stage
+stage_at l p = option_map (λ x. x.stage) (pool_at l.core.pools p)
 
 -- the brief of the pool p
 abbrev pub brief_at : {T B D : Type 0} → Paged T B D → ℕ → Option B
@@ -101,10 +107,11 @@ module _ {T B D : Type 0} (charge : T → ℕ) (spell : T → List ℕ) (bytes :
     pub within : p * old.core.limit + length (spell r) ≤ 131072 * old.core.limit
     pub there : IsTrusted reach honest old → HasBytes (bytes d) (p * old.core.limit) (spell r)
 
-  -- what is handed out to be made the body of p: the bytes or the record of the value that the contents have
+  -- What is handed out to be made the body of p: the bytes of the value that the contents have, where the pool was
+  -- compacted, or its record, where the pool was offloaded.
   abbrev pub IsReload : Paged T B D → ℕ → Move T D → Type 0
-  IsReload old p (move.FromBytes q b) = (q ≡ p) × ((r : T) × (content_at old p ≡ Some r) × (b.items ≡ spell r))
-  IsReload old p (move.FromDisk q filed number d) = (q ≡ p) × ((r : T) × (filed ≡ record_of (p * old.core.limit) (spell r)) × HandsRecord old p number d r)
+  IsReload old p (move.FromBytes q b) = (q ≡ p) × (stage_at old p ≡ Some stage.Compacted) × ((r : T) × (content_at old p ≡ Some r) × (b.items ≡ spell r))
+  IsReload old p (move.FromDisk q filed number d) = (q ≡ p) × (stage_at old p ≡ Some stage.Offloaded) × ((r : T) × (filed ≡ record_of (p * old.core.limit) (spell r)) × HandsRecord old p number d r)
   IsReload old p (move.Compacting q a) = ⊥
   IsReload old p (move.Offloading q place b d) = ⊥
 

@@ -1,10 +1,12 @@
 pub mod Calls
+pub mod Contents
 pub mod Counting
 pub mod Drafts
 pub mod Forms
 pub mod Home
 pub mod Moves
 pub mod Paged
+pub mod Parts
 pub mod Rows
 pub mod Trails
 pub mod Whole

@@ -1,5 +1,5 @@
 -- What contracts see of a loader.
-use Rattle.std.specs.Prelude.{[], true, ◌≡◌, ◌≤◌, ◌*◌, ℕ, Bool, IsTrue, List, Option, Ok, nat_eq, is_none, option_map}
+use Rattle.std.specs.Prelude.{[], true, ◌≡◌, ◌≤◌, ◌*◌, ℕ, Bool, IsTrue, List, Option, Ok, nat_eq, is_none, map, option_map}
 use Rattle.std.specs.Map.{lookup}
 use Rattle.naim_core.specs.State.{Core, start}
 use Rattle.naim_core.specs.Steps.{step_of}
@@ -28,6 +28,10 @@ kept_at l p = lookup (nat_eq p) l.kept
 -- the contents: the value of the pool p
 abbrev pub content_at : {T B D : Type 0} → Paged T B D → ℕ → Option T
 content_at l p = option_map (λ k. k.value) (kept_at l p)
+
+-- the contents as PIDs with values
+abbrev pub contents : {T B D : Type 0} → Paged T B D → List (ℕ × T)
+contents l = map (λ r. (r.0, r.1.value)) l.kept
 
 -- the call was this event, and changed nothing else
 pub record Steps {T B D : Type 0} (old : Paged T B D) (e : Event) (new : Paged T B D) : Type 0 where

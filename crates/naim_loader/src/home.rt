@@ -31,6 +31,17 @@ pub(crate) fn lend<D>(home: &mut Home<D>) -> D
     }
 }
 
+/// The disk, which is at home.
+pub(crate) fn home_disk<D>(home: Home<D>) -> D
+    requires { is_home home ≡ true }
+    ensures { result ≡ told home }
+{
+    match home {
+        Home::In(disk) => disk,
+        Home::Lent(_) => unreachable!(),
+    }
+}
+
 /// Brings the disk home.
 pub(crate) fn bring<D: Drop>(home: &mut Home<D>, disk: D)
     requires { is_home home.old ≡ false }

@@ -7,7 +7,9 @@ mod home;
 mod loader;
 mod noted;
 mod table;
+mod trail;
 
 pub use counters::Counters;
 pub use forms::{Draft, Evict, Move, Pin, PinAnswer, Put, ReadPin, WritePin};
 pub use loader::Loader;
+pub use trail::Trail;

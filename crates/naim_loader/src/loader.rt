@@ -3,6 +3,7 @@ ghost use Rattle.std.specs.Prelude.{◌≡◌, ◌<◌, ◌≤◌, ◌^◌, ◌*
 ghost use Rattle.naim_core.specs.Sound.{IsSound};
 ghost use Rattle.naim_core.specs.State.{pool_at, view_of};
 ghost use Rattle.naim_loader.specs.Calls.{brief_at};
+ghost use Rattle.naim_loader.specs.Contents.{StandsFor};
 ghost use Rattle.naim_loader.specs.Paged.{fresh, kept_at};
 
 mod evicts;
@@ -12,6 +13,7 @@ mod moves;
 mod reads;
 mod reloads;
 mod removes;
+mod trails;
 mod unpins;
 mod waves;
 mod writes;
@@ -28,8 +30,7 @@ use std::marker::Model;
 use std::snapshot::Snapshot;
 
 /// Pools by PID, each in memory or on the disk, and the pins and moves of workers. Contracts see the
-/// paging core's state, the value and the brief of each pool, and the disk.
-#[derive(Drop)]
+/// paging core's state, the value and the brief of each pool, and the disk. It must be spent by `close`.
 pub struct Loader<T: Poolable, B, D: Disk> {
     limit: u64,
     core: CoreState,
@@ -109,9 +110,11 @@ impl<T: Poolable + Drop, B: Drop, D: Disk + Drop> Loader<T, B, D> {
         Some(&entry.brief)
     }
 
-    /// The failure that is kept; `None` exactly where there is none. Constant time.
+    /// The failure that is kept; `None` exactly where there is none. It says too that the loader stands
+    /// for its contents. Constant time.
     pub fn failure(&self) -> Option<&Failure>
-        ensures { option_copied result ≡ self.now.core.failure }
+        ensures failure { option_copied result ≡ self.now.core.failure }
+        ensures stands { StandsFor T.charge_of T.encoding T.is_value D.bytes D.reach D.honest self.now }
     {
         self.core.failure()
     }

@@ -97,7 +97,8 @@ returns-in-Packed-clause-answer g c =
     let both = lies_packed g.T.Poolable.encoding (p * c.self.inside.limit) x.stage c.in-Packed.bytes k.0.value c.requires.pool.2 k.0.lies in
     let home = c.self.invariant.home none ∙ ap (λ o. is_none (if is_offloaded o then Some w else s.disk)) (sym both.0) ∙ sym (ap is_none k.0.disk_is) in
     let content = ap (option_map (λ z. z.value)) (kept_lookup c.self.inside.table p ∙ ap (option_map kept_of) c.in-Packed.ensures.at) ∙ ap (λ z. Some z) (sym k.1) in
-    answers_packed g.T.Poolable.charge_of g.T.Poolable.encoding g.D.Disk.bytes g.D.Disk.reach g.D.Disk.honest c.args.self.now _ w p m c.in-Packed.bytes k.0.value c.step.new.core c.step.new.counters _ _ _ c.self.view_is t c.in-Packed.ensures.kept refl home content both.1
+    answers_packed g.T.Poolable.charge_of g.T.Poolable.encoding g.D.Disk.bytes g.D.Disk.reach g.D.Disk.honest c.args.self.now _ w p m c.in-Packed.bytes k.0.value c.step.new.core c.step.new.counters _ _ _ c.self.view_is t c.in-Packed.ensures.kept refl home
+    (ap (option_map (λ z. z.stage)) at ∙ ap (λ z. Some z) both.0) content both.1
 
 pub returns-in-Stored-clause-answer : goal.returns-in-Stored-clause-answer
 returns-in-Stored-clause-answer g c =
@@ -112,7 +113,7 @@ returns-in-Stored-clause-answer g c =
     let content = ap (option_map (λ z. z.value)) (kept_lookup c.self.inside.table p ∙ ap (option_map kept_of) c.in-Stored.ensures.at) ∙ ap (λ z. Some z) (sym k.1) in
     let l = c.self.invariant.limit_is in
     answers_stored g.T.Poolable.charge_of g.T.Poolable.encoding g.D.Disk.bytes g.D.Disk.reach g.D.Disk.honest c.args.self.now _ w p m c.in-Stored.filed c.args.charge c.lend-disk.result k.0.value c.step.new.core c.step.new.counters _ _ _ c.self.view_is t
-    c.in-Stored.ensures.kept c.lend-disk.ensures.same home content (both.1 ∙ ap (λ z. record_of (p * z) (g.T.Poolable.encoding k.0.value)) (sym l)) (c.requires.pool.3 ∙ k.0.charge_is) c.lend-disk.ensures.disk
+    c.in-Stored.ensures.kept c.lend-disk.ensures.same home (ap (option_map (λ z. z.stage)) at ∙ ap (λ z. Some z) both.0) content (both.1 ∙ ap (λ z. record_of (p * z) (g.T.Poolable.encoding k.0.value)) (sym l)) (c.requires.pool.3 ∙ k.0.charge_is) c.lend-disk.ensures.disk
     (place_within p s.limit (length (g.T.Poolable.encoding k.0.value)) k.0.below (let short = (c.self.invariant.sound.forms_fit p x at).within in let long = k.0.length_is in omega arith))
     (λ good. subst (λ z. HasBytes (g.D.Disk.bytes z) (p * s.limit) (g.T.Poolable.encoding k.0.value)) (sym c.lend-disk.ensures.disk)
     (subst (λ z. HasBytes (g.D.Disk.bytes (told c.self.inside.disk)) (p * z) (g.T.Poolable.encoding k.0.value)) (sym l)

@@ -1,5 +1,5 @@
 use Rattle.std.proofs.Common.{◌≡◌, ◌*◌, Some, refl, ap, sym, subst, ◌∙◌}
-use Rattle.std.specs.Prelude.{is_none, is_some, option_map, unwrap_or}
+use Rattle.std.specs.Prelude.{is_some, option_map, unwrap_or}
 use Rattle.repository.specs.Record.{HasBytes}
 use Rattle.naim_core.specs.Rows.{pinned_for}
 use Rattle.naim_core.specs.declared.event.Event.TheVariants as event

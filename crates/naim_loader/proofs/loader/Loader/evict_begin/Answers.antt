@@ -1,5 +1,4 @@
 use Rattle.std.proofs.Common.{refl, sym, ◌∙◌}
-use Rattle.naim_core.specs.State.{pool_at}
 use Rattle.naim_loader.proofs.Evictions.{free_victim, packed_victim, victim_there}
 use Rattle.naim_loader.proofs.loader.Loader.evict_begin.Goals as goal
 

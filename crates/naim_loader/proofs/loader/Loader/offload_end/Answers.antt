@@ -1,5 +1,4 @@
-use Rattle.std.proofs.Common.{◌≡◌, sym, ap, subst}
-use Rattle.naim_core.proofs.Effects.{no_failure}
+use Rattle.std.proofs.Common.{sym, subst}
 use Rattle.naim_loader.specs.Calls.{ComesBack, disk_of}
 use Rattle.naim_loader.specs.Moves.{EndsOffload, OffloadsFrom}
 use Rattle.naim_loader.proofs.Ends.{filing, no_offload}

@@ -1,7 +1,7 @@
 use Rattle.std.proofs.Common.{sym, subst, ◌∙◌}
 use Rattle.std.specs.Arc.{arc_value}
 use Rattle.naim_loader.specs.Calls.{ComesBack, disk_of}
-use Rattle.naim_loader.specs.Moves.{IsPinWith, Reloads, pid_of}
+use Rattle.naim_loader.specs.Moves.{IsPinWith, Reloads}
 use Rattle.naim_loader.proofs.Ends.{reload_asked, reload_had, reload_kind}
 use Rattle.naim_loader.proofs.loader.Loader.reload_end.Goals as goal
 

@@ -1,10 +1,10 @@
-use Rattle.std.proofs.Common.{arith, refl, sym, ap, ◌∙◌}
+use Rattle.std.proofs.Common.{refl, sym, ap, ◌∙◌}
 use Rattle.std.specs.Prelude.{is_none}
 use Rattle.naim_core.specs.State.{pool_at}
 use Rattle.naim_core.specs.declared.event.Event.TheVariants as event
 use Rattle.naim_core.proofs.Effects.{remove_did}
 use Rattle.naim_loader.proofs.Removals.{remove_whole}
-use Rattle.naim_loader.proofs.Views.{removed_view, same_view}
+use Rattle.naim_loader.proofs.Views.{removed_view}
 use Rattle.naim_loader.proofs.Wholes.{ran, there, whole_refused}
 use Rattle.naim_loader.proofs.loader.Loader.remove.Goals as goal
 

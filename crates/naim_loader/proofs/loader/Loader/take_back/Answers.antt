@@ -1,4 +1,4 @@
-use Rattle.std.proofs.Common.{refl, ap, ◌∙◌}
+use Rattle.std.proofs.Common.{ap, ◌∙◌}
 use Rattle.std.specs.Prelude.{is_some}
 use Rattle.naim_loader.specs.Calls.{disk_of}
 use Rattle.naim_loader.proofs.Homes.{comes_good, was_out}

@@ -1,10 +1,7 @@
 use Rattle.std.proofs.Common.{length, arith, refl, sym, ap, subst, ◌∙◌, inl, inr}
 use Rattle.std.specs.Prelude.{is_none}
 use Rattle.naim_core.specs.State.{pool_at, hand_at}
-use Rattle.naim_core.specs.Steps.{step_of}
-use Rattle.naim_core.specs.declared.event.Event.TheVariants as event
 use Rattle.naim_core.proofs.Effects.{unpin_write_did}
-use Rattle.naim_loader.specs.Counting.{Stepped}
 use Rattle.naim_loader.specs.Drafts.{draft_value, draft_form}
 use Rattle.naim_loader.specs.Forms.{LiesIn}
 use Rattle.naim_loader.proofs.Wholes.{there, whole_refused}
