@@ -1,5 +1,12 @@
-mod InPlace
+mod Accepting
 mod Cloned
+mod Clones
 mod Filling
+mod FixedAt
+mod Gathered
+mod InPlace
+mod Joining
 mod Moving
+mod Noting
+mod Ranked
 mod Tables

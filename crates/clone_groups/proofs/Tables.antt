@@ -5,9 +5,11 @@ use Rattle.std.proofs.lemmas.List.{drop_all, drop_more, reverse-append}
 use Rattle.std.proofs.lemmas.List.Elements.{filter-append}
 use Rattle.std.proofs.lemmas.Bool.{cases_Bool, ne_eqb}
 use Rattle.hlo_num.specs.declared.word.Word.{Word}
+use Rattle.il_laws.specs.Clone.{Fixed}
 use Rattle.il_laws.specs.Table.{Row}
 use Rattle.plan_laws.specs.Groups.{same_fixed}
 use Rattle.clone_groups.specs.Fixing.{fixed_of}
+use Rattle.clone_groups.specs.Keys.{fixed_in, numbers_of}
 
 first_last : (row : Row) (rows : List Row) → reverse (row ∷ rows) ≡ reverse rows ++ row ∷ []
 first_last row rows = reverse-append (row ∷ []) rows
@@ -33,15 +35,21 @@ nothing_left : (left : List (ℕ × Word)) → (length left == 0) ≡ same_fixed
 nothing_left [] = refl
 nothing_left (x ∷ left) = ne_eqb (length (x ∷ left)) 0 (λ e. omega (arith, e))
 
-module _ (some others left : List (ℕ × Word)) (i : ℕ) (rest : same_fixed (fixed_of (drop i some)) (fixed_of left) ≡ same_fixed (fixed_of some) (fixed_of others)) where
-  pub both_end : length some ≤ i → (length left == 0) ≡ same_fixed (fixed_of some) (fixed_of others)
-  both_end past = nothing_left left ∙ ap (λ (l : List (ℕ × Word)). same_fixed (fixed_of l) (fixed_of left)) (sym (drop_all i some past)) ∙ rest
+module _ (some : List (ℕ × ℕ)) (others left : List (ℕ × Word)) (i : ℕ)
+    (rest : same_fixed (fixed_in (drop i some)) (fixed_of left) ≡ same_fixed (fixed_in some) (fixed_of others)) where
+  pub both_end : length some ≤ i → (length left == 0) ≡ same_fixed (fixed_in some) (fixed_of others)
+  both_end past = nothing_left left ∙ ap (λ (l : List (ℕ × ℕ)). same_fixed (fixed_in l) (fixed_of left)) (sym (drop_all i some past)) ∙ rest
 
-  pub one_ends : left ≡ [] → i < length some → false ≡ same_fixed (fixed_of some) (fixed_of others)
+  pub one_ends : left ≡ [] → i < length some → false ≡ same_fixed (fixed_in some) (fixed_of others)
   one_ends none lt =
-      ap (λ (l : List (ℕ × Word)). same_fixed (fixed_of l) []) (sym (drop_more some i (0, record { 0 = 0 }) lt))
-      ∙ ap (λ (l : List (ℕ × Word)). same_fixed (fixed_of (drop i some)) (fixed_of l)) (sym none) ∙ rest
+      ap (λ (l : List (ℕ × ℕ)). same_fixed (fixed_in l) []) (sym (drop_more some i (0, 0) lt))
+      ∙ ap (λ (l : List (ℕ × Word)). same_fixed (fixed_in (drop i some)) (fixed_of l)) (sym none) ∙ rest
 
 pub is_nothing : {X : Type 0} (xs : List X) → length xs ≡ 0 → xs ≡ []
 is_nothing [] e = refl
 is_nothing (x ∷ xs) e = absurd (omega (arith, e))
+
+-- constants by their numbers are the same constants
+pub numbers_fixed : (xs : List (ℕ × Word)) → fixed_in (numbers_of xs) ≡ fixed_of xs
+numbers_fixed [] = refl
+numbers_fixed (x ∷ xs) = ap (λ (fs : List Fixed). record { param = x.0; word = x.1 } ∷ fs) (numbers_fixed xs)

@@ -2,26 +2,27 @@
 ghost use Rattle.std.specs.Prelude.{◌≡◌, [], ◌∷◌, filter, nat_eq, not, reverse, OnErr, OnOk};
 ghost use Rattle.plan_laws.specs.Groups.{clone_in, is_row_of, same_fixed};
 ghost use Rattle.clone_groups.specs.Fixing.{fixed_of};
+ghost use Rattle.clone_groups.specs.Keys.{fixed_in};
 
-use hlo_num::{Seq, Word};
+use crate::keys::{CloneKey, numbers_of};
+use hlo_num::Word;
 use std::alloc::{AllocError, Global};
 use std::marker::Model;
 
 /// A clone with the callee and the constants that it was made for.
 #[derive(Drop)]
-struct CloneRow {
-    callee: u32,
-    fixed: Seq<(u32, Word)>,
+pub(crate) struct CloneRow {
+    key: CloneKey,
     clone: u32,
 }
 
 impl Model for CloneRow {
     ghost use Rattle.il_laws.specs.Table.{Row};
-    ghost use Rattle.clone_groups.specs.Fixing.{fixed_of};
+    ghost use Rattle.clone_groups.specs.Keys.{fixed_in};
 
     ghost Value = { Row };
 
-    ghost view = { λ r. record { callee = r.callee; fixed = fixed_of r.fixed; clone = r.clone } };
+    ghost view = { λ r. record { callee = r.key.callee; fixed = fixed_in r.key.fixed.items; clone = r.clone } };
 }
 
 /// The clones that stand, each with the callee and the constants that it was made for. Contracts see its rows, the
@@ -42,24 +43,37 @@ impl Model for CloneTable {
 }
 
 impl CloneRow {
+    pub(crate) fn key(&self) -> &CloneKey
+        ensures callee { result.now.callee ≡ self.now.callee }
+        ensures fixed { fixed_in result.now.fixed.items ≡ self.now.fixed }
+    {
+        &self.key
+    }
+
+    pub(crate) fn pid(&self) -> u32
+        ensures { result ≡ self.now.clone }
+    {
+        self.clone
+    }
+
     /// Whether it is for a callee and constants.
     fn is_for(&self, callee: u32, fixed: &[(u32, Word)]) -> bool
         ensures { result ≡ is_row_of callee (fixed_of fixed.now) self.now }
     {
-        self.callee == callee && are_same(self.fixed.as_slice(), fixed)
+        self.key.callee == callee && are_same(self.key.fixed.as_slice(), fixed)
     }
 }
 
 /// Whether constants are the same, in their order.
-fn are_same(some: &[(u32, Word)], others: &[(u32, Word)]) -> bool
-    ensures { result ≡ same_fixed (fixed_of some.now) (fixed_of others.now) }
+fn are_same(some: &[(u32, u32)], others: &[(u32, Word)]) -> bool
+    ensures { result ≡ same_fixed (fixed_in some.now) (fixed_of others.now) }
 {
     let mut left = others;
-    for (param, word) in some {
+    for (param, number) in some {
         let Some(((other, value), rest)) = left.split_first() else {
             return false;
         };
-        if *param != *other || word.0 != value.0 {
+        if *param != *other || *number != value.0 {
             return false;
         }
         left = rest;
@@ -83,15 +97,19 @@ impl CloneTable {
         ensures added { OnOk result (self.new ≡ record { callee = callee; fixed = fixed_of fixed.now; clone = clone } ∷ self.old) }
         ensures kept { OnErr result (self.new ≡ self.old) }
     {
-        let fixed = Seq::from_vec(Vec::from_slice(*self.rows.allocator(), fixed)?);
-        match self.rows.push(CloneRow {
-            callee,
-            fixed,
-            clone,
-        }) {
+        let fixed = numbers_of(*self.rows.allocator(), fixed)?;
+        let key = CloneKey { callee, fixed };
+        match self.rows.push(CloneRow { key, clone }) {
             Ok(()) => Ok(()),
             Err(_) => Err(AllocError),
         }
+    }
+
+    /// The rows, the oldest one first.
+    pub(crate) fn rows(&self) -> &[CloneRow]
+        ensures { reverse result.now ≡ self.now }
+    {
+        self.rows.as_slice()
     }
 
     /// Drops the rows of a clone that doesn't stand any more. It takes time in proportion to the rows.
