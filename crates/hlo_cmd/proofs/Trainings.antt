@@ -23,7 +23,7 @@ use Rattle.profile.specs.Counts.{Profiled}
 use Rattle.profile.specs.Names.{Names}
 use Rattle.profile.specs.Texts.{Line, Entry, Site, set_by, set_by_all}
 use Rattle.list_laws.proofs.Elements.{drop_read}
-use Rattle.hlo_cmd.specs.Training.{AreCountsOf, counted_lines, PutsProfile, routine_lines, site_lines_from, trained_lines}
+use Rattle.hlo_cmd.specs.Training.{AreCountsOf, counted_lines, PutsProfile, entered, routine_lines, site_lines_from, trained_lines}
 
 pub set_all_append : (ls ms : List Line) (ns : Names) → set_by_all (ls ++ ms) ns ≡ set_by_all ms (set_by_all ls ns)
 set_all_append [] ms ns = refl
@@ -77,8 +77,8 @@ lines_are shapes calls (r ∷ rs) =
     let n : List ℕ = name_at shapes r.pid in
     let count : ℕ = sites_of_blocks r.blocks in
     let counts : List ℕ = map (λ k. site_count calls r k) (range_with_len 0 count) in
-    ap (λ (ls : List Line). Entry n (entry_count calls r) ∷ (site_lines_from n 0 counts ++ ls)) (lines_are shapes calls rs)
-    ∙ ap (λ (ls : List Line). Entry n (entry_count calls r) ∷ (ls ++ flat_map (trained_lines shapes calls) rs)) (site_lines_are n (λ k. site_count calls r k) 0 count)
+    ap (λ (ls : List Line). Entry n (entered n (entry_count calls r)) ∷ (site_lines_from n 0 counts ++ ls)) (lines_are shapes calls rs)
+    ∙ ap (λ (ls : List Line). Entry n (entered n (entry_count calls r)) ∷ (ls ++ flat_map (trained_lines shapes calls) rs)) (site_lines_are n (λ k. site_count calls r k) 0 count)
 
 -- a routine has no more call sites than instructions
 sites_fit : (is : List Instr) → sites_of is ≤ length is

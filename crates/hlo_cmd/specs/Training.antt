@@ -1,5 +1,6 @@
 -- The profile of a run.
-use Rattle.std.specs.Prelude.{◌≡◌, ℕ, ◌+◌, List, [], ◌∷◌, ◌++◌, Some, Option, Ok, Err, Result, take, length, map, flat_map, ⊤}
+use Rattle.std.specs.Prelude.{◌≡◌, ℕ, ◌+◌, List, [], ◌∷◌, ◌++◌, Some, Option, Ok, Err, Result, take, length, map, flat_map, ⊤, min, codes, if◌then◌else◌}
+use Rattle.std.specs.Str.{bytes_eq}
 use Rattle.std.specs.List.{range_with_len}
 use Rattle.std.specs.Io.KnownBytes.{Appends, Keeps}
 use Rattle.il_core.specs.declared.program.IlProgram.{IlProgram}
@@ -20,10 +21,14 @@ use Rattle.profile.specs.Writing.{IsWritten}
 use Rattle.hlo_cmd.specs.declared.print.PrintFault.{PrintFault}
 use Rattle.hlo_cmd.specs.declared.print.PrintFault.TheVariants as print_fault
 
+-- how often a routine of this name was entered that was called so often: the start of the program enters `main` once more
+abbrev pub entered : List ℕ → ℕ → ℕ
+entered name calls = if bytes_eq name (codes "main") then min (calls + 1) 4294967295 else calls
+
 -- the lines that calls make of a routine: its entry, and each of its call sites, with how often they were
 abbrev pub trained_lines : List ShapeRow → List MadeCall → RoutineParts → List Line
 trained_lines shapes calls r =
-    Entry (name_at shapes r.pid) (entry_count calls r)
+    Entry (name_at shapes r.pid) (entered (name_at shapes r.pid) (entry_count calls r))
     ∷ map (λ k. Site (name_at shapes r.pid) k (site_count calls r k)) (range_with_len 0 (sites_of_blocks r.blocks))
 
 -- the names and counts that the lines of all routines of a program set, in their order
@@ -37,7 +42,7 @@ site_lines_from n k [] = []
 site_lines_from n k (c ∷ cs) = Site n k c ∷ site_lines_from n (k + 1) cs
 
 abbrev pub routine_lines : List ℕ → ℕ → List ℕ → List Line
-routine_lines n entry sites = Entry n entry ∷ site_lines_from n 0 sites
+routine_lines n calls sites = Entry n (entered n calls) ∷ site_lines_from n 0 sites
 
 abbrev pub counted_lines : List ShapeRow → List RoutineParts → List ℕ → List (List ℕ) → List Line
 counted_lines shapes [] entries sites = []

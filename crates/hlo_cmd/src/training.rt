@@ -9,7 +9,7 @@ ghost use Rattle.il_run.specs.Run.{AsksFor, IfTold};
 ghost use Rattle.profile.specs.Counts.{Profiled};
 ghost use Rattle.profile.specs.Texts.{set_by_all};
 ghost use Rattle.hlo_cmd.specs.Printing.{HasRow, IsPrintCause};
-ghost use Rattle.hlo_cmd.specs.Training.{AreCountsOf, EndsCounted, IsInputCause, PutsProfile, counted_lines, routine_lines, site_lines_from};
+ghost use Rattle.hlo_cmd.specs.Training.{AreCountsOf, EndsCounted, IsInputCause, PutsProfile, counted_lines, routine_lines, site_lines_from, entered};
 
 use crate::print::{PrintFault, put};
 use hlo_num::Name;
@@ -129,8 +129,20 @@ fn set_routine(
 {
     let row = row_of(shapes, routine.pid).unwrap();
     let size = routine.size();
-    profile.set_entry(&row.name, entry)?;
+    profile.set_entry(&row.name, entered(&row.name, entry))?;
     set_sites(profile, &row.name, sites)
+}
+
+/// How often a routine of this name was entered that was called so often: the start of the program enters `main` once
+/// more.
+fn entered(name: &Name, calls: u32) -> u32
+    ensures { result ≡ entered name.now calls }
+{
+    if name.bytes() == b"main".as_slice() {
+        calls.saturating_add(1)
+    } else {
+        calls
+    }
 }
 
 /// Sets the counts of a routine's call sites.
