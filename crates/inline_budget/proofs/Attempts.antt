@@ -1,6 +1,6 @@
 -- Callers are followed: what one more routine, and one more that hands on, do to the tables.
 use Rattle.std.proofs.Common.{◌≡◌, ℕ, zero, suc, ◌+◌, ◌-◌, ◌*◌, ◌<◌, ◌≤◌, List, [], ◌∷◌, ◌++◌, length, drop, get_or, Bool, true, false, refl, ap, subst, sym, ◌∙◌, arith, eqb-true, eq-eqb, ne_eqb, leb-true}
-use Rattle.std.specs.Prelude.{◌^◌, nat_eq, nat_le, ◌||◌, ◌&&◌, if◌then◌else◌, slice_set, slice_index_or, Option, Some, None}
+use Rattle.std.specs.Prelude.{◌^◌, nat_eq, nat_le, ◌||◌, ◌&&◌, if◌then◌else◌, slice_set, Some, None}
 use Rattle.std.specs.List.{AllByRecursion}
 use Rattle.std.proofs.Math.Nat.{mul-le-mul_left, pow-le-pow_left}
 use Rattle.std.proofs.lemmas.List.{drop_all}
@@ -13,7 +13,7 @@ use Rattle.inline_budget.specs.declared.numbers.Numbers.{Numbers}
 use Rattle.inline_budget.specs.Calls.{Calls, only_if, calls_sum, callers_of, shares, number_at, has_number}
 use Rattle.inline_budget.specs.Attempts.{numbers_at, plain, grown, IsWithin, squares, rise, room_after, IsAttempt, IsTaken}
 use Rattle.inline_budget.proofs.Sums.{sum_more, sum_same, callers_all}
-use Rattle.inline_budget.proofs.Tables.{same_bad, set_is, set_here, set_there, has_append}
+use Rattle.inline_budget.proofs.Tables.{same_bad, set_is, set_there, has_append}
 
 -- the limits as tests and as bounds
 pub within_is : (n : Numbers) → plan.is_within (plain n) ≡ true → IsWithin n

@@ -1,6 +1,6 @@
 -- Whether a call may be inlined beside the accepted ones, by what the tables say.
-use Rattle.std.proofs.Common.{◌≡◌, ℕ, zero, suc, ◌+◌, ◌-◌, ◌*◌, ◌<◌, ◌≤◌, List, [], ◌∷◌, ◌++◌, length, Bool, true, false, refl, ap, ap₂, subst, sym, ◌∙◌, arith, eqb-true, eq-eqb, ne_eqb, leb-true, le-leb, ltb-true, ltb-false}
-use Rattle.std.specs.Prelude.{◌^◌, nat_eq, nat_le, nat_lt, ◌&&◌, if◌then◌else◌, slice_set, sum_by, Option, Some, None}
+use Rattle.std.proofs.Common.{◌≡◌, ℕ, suc, ◌+◌, ◌-◌, ◌*◌, ◌<◌, ◌≤◌, List, [], ◌∷◌, ◌++◌, length, Bool, true, false, refl, ap, sym, ◌∙◌, arith, eqb-true, eq-eqb, ne_eqb, leb-true, le-leb, ltb-true, ltb-false}
+use Rattle.std.specs.Prelude.{◌^◌, nat_eq, nat_le, nat_lt, ◌&&◌, if◌then◌else◌, slice_set, Option, Some, None}
 use Rattle.std.specs.List.{AllByRecursion, list_all}
 use Rattle.std.proofs.Math.Nat.{mul-add, mul-le-mul_left, pow-le-pow_left}
 use Rattle.std.proofs.lemmas.List.{length-set}
@@ -17,7 +17,7 @@ use Rattle.plan_laws.specs.Summary.{Summary, summary_at}
 use Rattle.plan_laws.proofs.Levels.{levels_fall, ranked_acyclic}
 use Rattle.inline_budget.specs.declared.numbers.Numbers.{Numbers}
 use Rattle.inline_budget.specs.Calls.{Calls, only_if, calls_sum, shares, number_at}
-use Rattle.inline_budget.specs.Attempts.{numbers_at, plain, grown, IsWithin, squares, rise, room_after, IsAttempt, IsTaken, IsRefused}
+use Rattle.inline_budget.specs.Attempts.{numbers_at, plain, grown, IsWithin, squares, rise, IsAttempt, IsTaken, IsRefused}
 use Rattle.inline_budget.proofs.Sums.{sum_append, sum_scaled, sum_same, sum_least, sum_none}
 use Rattle.inline_budget.proofs.Tables.{same_bad, set_is}
 use Rattle.inline_budget.proofs.Levelled.{level_least}

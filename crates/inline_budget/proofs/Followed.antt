@@ -1,13 +1,12 @@
 -- What the loop over the queue takes from the tables.
-use Rattle.std.proofs.Common.{◌≡◌, ℕ, zero, suc, ◌+◌, ◌-◌, ◌*◌, ◌<◌, ◌≤◌, List, [], ◌∷◌, ◌++◌, length, get_or, Bool, true, false, Result, Ok, Err, refl, ap, subst, sym, ◌∙◌, arith}
+use Rattle.std.proofs.Common.{◌≡◌, ℕ, zero, suc, ◌+◌, ◌-◌, ◌<◌, ◌≤◌, List, [], ◌∷◌, length, get_or, Bool, true, false, Result, Ok, Err, refl, ap, subst, sym, ◌∙◌, arith}
 use Rattle.std.specs.Prelude.{slice_set, slice_index_or, IfOk}
 use Rattle.std.proofs.lemmas.Result.{IfOk-weaker}
 use Rattle.inline_budget.proofs.Levelled.{any_default}
-use Rattle.std.specs.List.{AllByRecursion}
 use Rattle.inline_budget.specs.declared.numbers.Numbers.{Numbers}
 use Rattle.inline_budget.specs.Attempts.{IsAttempt, IsRefused, IsTaken}
-use Rattle.inline_budget.specs.Calls.{Calls, callers_of, number_at}
-use Rattle.inline_budget.specs.Following.{AreCallers, Hands, HandsNot, IsReady, Raises, Refuses}
+use Rattle.inline_budget.specs.Calls.{Calls, number_at}
+use Rattle.inline_budget.specs.Following.{AreCallers, Follows, FollowsNot, Hands, HandsNot, IsReady, Raises, Refuses, Spreads, SpreadsNot}
 use Rattle.inline_budget.proofs.Attempts.{attempt_handed, attempt_passed, attempt_done}
 
 module _ (T : List Numbers) (q : ℕ) (by : Numbers) (ts hs ks : List ℕ) (room y more : ℕ) (xs : List ℕ) (more_is : more ≡ number_at ts y - number_at hs y)
@@ -103,3 +102,22 @@ module _ (T : List Numbers) (q : ℕ) (by : Numbers) (lists : List (List ℕ)) (
       → (cs : Calls) (p limit : ℕ) → AreCallers cs lists → IsAttempt cs T p q by limit ts hs ks 0 room 0 [] → IsTaken cs T p q by limit us now
   following_end us gs js next now h end cs p limit are a =
       attempt_done cs T p q by limit us gs js next now 0 (h.attempt cs p limit are a) end
+
+-- ---- from the caller on
+
+module _ (T : List Numbers) (p q : ℕ) (by : Numbers) (lists : List (List ℕ)) (ts hs ks : List ℕ) (room : ℕ) (us gs js : List ℕ) (now : ℕ)
+    (same : gs ≡ hs) (raised : Raises T q by ts hs ks room 1 (p ∷ []) us js now) where
+  started : (cs : Calls) (limit : ℕ) → IsAttempt cs T p q by limit ts hs ks 0 room 1 (p ∷ []) → IsAttempt cs T p q by limit us gs js 0 now 0 []
+  started cs limit a = subst (λ (es : List ℕ). IsAttempt cs T p q by limit us es js 0 now 0 []) (sym same) (raised cs p limit 0 (omega arith) a)
+
+  pub spread_taken : {E : Type 0} (r : Result Bool E) (vs : List ℕ) (left : ℕ) → IfOk r (λ b. b ≡ true → Follows T q by lists us gs js now vs left)
+      → IfOk r (λ b. b ≡ true → Spreads T p q by lists ts hs ks room vs left)
+  spread_taken r vs left follows =
+      IfOk-weaker r (λ b. b ≡ true → Follows T q by lists us gs js now vs left) (λ b. b ≡ true → Spreads T p q by lists ts hs ks room vs left)
+      (λ b f is cs limit are a. f is cs p limit are (started cs limit a)) follows
+
+  pub spread_not : {E : Type 0} (r : Result Bool E) → IfOk r (λ b. b ≡ false → FollowsNot T q by lists us gs js now)
+      → IfOk r (λ b. b ≡ false → SpreadsNot T p q by lists ts hs ks room)
+  spread_not r follows =
+      IfOk-weaker r (λ b. b ≡ false → FollowsNot T q by lists us gs js now) (λ b. b ≡ false → SpreadsNot T p q by lists ts hs ks room)
+      (λ b f is cs limit are a. f is cs p limit are (started cs limit a)) follows

@@ -1,6 +1,6 @@
 -- The numbers that the laws compute, as sums over accepted calls.
-use Rattle.std.proofs.Common.{◌≡◌, ℕ, zero, suc, ◌+◌, ◌-◌, ◌<◌, ◌≤◌, List, [], ◌∷◌, ◌++◌, length, Bool, true, false, refl, ap, subst, sym, ◌∙◌, arith, slice_get, eqb-true, eq-eqb, ne_eqb}
-use Rattle.std.specs.Prelude.{nat_eq, ◌||◌, ◌&&◌, if◌then◌else◌, Option, Some, None, ⊤}
+use Rattle.std.proofs.Common.{◌≡◌, ℕ, zero, suc, ◌+◌, ◌<◌, ◌≤◌, List, [], ◌∷◌, Bool, true, false, refl, ap, sym, ◌∙◌, arith, slice_get, eqb-true, eq-eqb, ne_eqb}
+use Rattle.std.specs.Prelude.{nat_eq, ◌||◌, ◌&&◌, Option, Some, None, ⊤}
 use Rattle.std.specs.List.{AllByRecursion}
 use Rattle.il_core.proofs.Found.{found_number}
 use Rattle.il_laws.proofs.Grown.{all_to}
@@ -12,7 +12,6 @@ use Rattle.plan_laws.specs.Numbers.{Choice, is_chosen, InlineSite, if_chosen, fa
 use Rattle.plan_laws.proofs.Levels.{levels_fall}
 use Rattle.inline_budget.specs.Calls.{Calls, only_if, calls_sum}
 use Rattle.inline_budget.proofs.Sums.{sum_least, sum_same}
-use Rattle.inline_budget.proofs.Tables.{same_bad}
 
 -- one of the numbers of routines, and what a site adds to it beside its callee's
 pub record Measure : Type 0 where

@@ -11,3 +11,4 @@ pub mod Squares
 pub mod Decided
 pub mod Raised
 pub mod Followed
+pub mod Cleared

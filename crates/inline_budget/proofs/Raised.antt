@@ -1,17 +1,16 @@
 -- What the loop over callers takes from the tables.
-use Rattle.std.proofs.Common.{◌≡◌, ℕ, zero, suc, ◌+◌, ◌-◌, ◌*◌, ◌<◌, ◌≤◌, List, [], ◌∷◌, ◌++◌, length, drop, get_or, Bool, true, false, refl, ap, subst, sym, ◌∙◌, arith, eqb-true, eq-eqb, ne_eqb}
-use Rattle.std.specs.Prelude.{◌^◌, ◌||◌, nat_eq, if◌then◌else◌, slice_set, slice_index_or, Some, None}
+use Rattle.std.proofs.Common.{◌≡◌, ℕ, suc, ◌+◌, ◌*◌, ◌<◌, ◌≤◌, List, [], ◌∷◌, ◌++◌, length, drop, get_or, Bool, true, false, refl, ap, subst, sym, ◌∙◌, arith, eqb-true}
+use Rattle.std.specs.Prelude.{◌^◌, nat_eq, if◌then◌else◌, slice_set, Some, None}
 use Rattle.std.specs.List.{AllByRecursion}
 use Rattle.std.proofs.Math.Nat.{mul-add, mul-le-mul_right, pow-lt-pow_left}
 use Rattle.std.proofs.lemmas.List.{drop_all, length-set, length-append}
-use Rattle.il_core.specs.Limits.{max_size}
 use Rattle.il_laws.proofs.SpliceBlocks.{all_append}
 use Rattle.inline_budget.specs.declared.numbers.Numbers.{Numbers}
-use Rattle.inline_budget.specs.Attempts.{IsWithin, numbers_at, grown, rise, room_after, IsAttempt, IsRefused}
-use Rattle.inline_budget.specs.Calls.{Calls, callers_of, has_number, number_at}
+use Rattle.inline_budget.specs.Attempts.{numbers_at, room_after, IsAttempt, IsRefused}
+use Rattle.inline_budget.specs.Calls.{Calls, has_number, number_at}
 use Rattle.inline_budget.specs.Following.{AreBrief, IsReady, Raises, Refuses}
-use Rattle.inline_budget.proofs.Tables.{all_at, same_bad, set_is, set_here, set_there, has_append, or_false}
-use Rattle.inline_budget.proofs.Attempts.{HasRoom, has_room, drop_next, attempt_raised, attempt_handed, attempt_passed}
+use Rattle.inline_budget.proofs.Tables.{all_at, set_is, has_append, or_false}
+use Rattle.inline_budget.proofs.Attempts.{HasRoom, has_room, drop_next, attempt_raised}
 
 -- a number is at most a multiple of it
 times_least : (k n : ℕ) → 1 ≤ k → n ≤ k * n

@@ -1,5 +1,5 @@
 -- What following callers does to the tables, whatever the accepted calls are.
-use Rattle.std.specs.Prelude.{◌≡◌, ⊤, ℕ, suc, ◌+◌, ◌<◌, ◌≤◌, ◌^◌, false, List, [], length, slice_index_or}
+use Rattle.std.specs.Prelude.{◌≡◌, ℕ, suc, ◌<◌, ◌≤◌, ◌^◌, false, List, [], ◌∷◌, length, slice_index_or}
 use Rattle.std.specs.List.{AllByRecursion}
 use Rattle.inline_budget.specs.declared.numbers.Numbers.{Numbers}
 use Rattle.inline_budget.specs.Attempts.{AreFew, IsWithin, IsAttempt, IsRefused, IsTaken, numbers_at}
@@ -55,3 +55,12 @@ Follows T q by lists ts hs ks room us now =
 abbrev pub FollowsNot : List Numbers → ℕ → Numbers → List (List ℕ) → List ℕ → List ℕ → List ℕ → ℕ → Type 0
 FollowsNot T q by lists ts hs ks room =
     (cs : Calls) (p limit : ℕ) → AreCallers cs lists → IsAttempt cs T p q by limit ts hs ks 0 room 0 [] → IsRefused cs T p q by limit
+
+-- the numbers came to p, and all callers were followed
+abbrev pub Spreads : List Numbers → ℕ → ℕ → Numbers → List (List ℕ) → List ℕ → List ℕ → List ℕ → ℕ → List ℕ → ℕ → Type 0
+Spreads T p q by lists ts hs ks room us now =
+    (cs : Calls) (limit : ℕ) → AreCallers cs lists → IsAttempt cs T p q by limit ts hs ks 0 room 1 (p ∷ []) → IsTaken cs T p q by limit us now
+
+abbrev pub SpreadsNot : List Numbers → ℕ → ℕ → Numbers → List (List ℕ) → List ℕ → List ℕ → List ℕ → ℕ → Type 0
+SpreadsNot T p q by lists ts hs ks room =
+    (cs : Calls) (limit : ℕ) → AreCallers cs lists → IsAttempt cs T p q by limit ts hs ks 0 room 1 (p ∷ []) → IsRefused cs T p q by limit

@@ -3,8 +3,8 @@
 ghost use Rattle.std.specs.Prelude.{◌≡◌, ◌+◌, ◌<◌, ◌≤◌, ◌^◌, ℕ, [], true, false, IfOk, Some, None, length, slice_index_or, slice_set};
 ghost use Rattle.std.specs.List.{AllByRecursion};
 ghost use Rattle.inline_budget.specs.Attempts.{AreFew, IsWithin, numbers_at, room_after};
-ghost use Rattle.inline_budget.specs.Calls.{number_at};
-ghost use Rattle.inline_budget.specs.Following.{AreBrief, Follows, FollowsNot, Hands, HandsNot, IsReady, Raises, Refuses};
+ghost use Rattle.inline_budget.specs.Calls.{has_number, number_at};
+ghost use Rattle.inline_budget.specs.Following.{AreBrief, Follows, FollowsNot, Hands, HandsNot, IsReady, Raises, Refuses, Spreads, SpreadsNot};
 
 use crate::buckets::Buckets;
 use crate::numbers::{Numbers, grown, is_within, rise};
@@ -33,6 +33,50 @@ pub(crate) struct Attempt {
 }
 
 impl Attempt {
+    /// Lets the numbers come to the caller, and follows the callers from it on. Tells whether they all stay within the
+    /// limits.
+    fn spread(
+        &mut self,
+        numbers: &[Numbers],
+        callers: &Buckets,
+        call: &Candidate,
+    ) -> Result<bool, AllocError>
+        requires ready { IsReady numbers.now self.old.times.items self.old.handed.items self.old.queue.items }
+        requires caller { call.now.caller < length numbers.now }
+        requires lists { length callers.now ≡ length numbers.now }
+        requires inside { (y : ℕ) → AllByRecursion (λ x. x < length numbers.now) (slice_index_or callers.now y []) }
+        requires by { AreBrief call.now.by }
+        ensures ready { IfOk result (λ _. IsReady numbers.now self.new.times.items self.new.handed.items self.new.queue.items) }
+        ensures taken { IfOk result (λ b. b ≡ true → Spreads numbers.now call.now.caller call.now.callee call.now.by callers.now self.old.times.items self.old.handed.items self.old.queue.items self.old.room self.new.times.items self.new.room) }
+        ensures refused { IfOk result (λ b. b ≡ false → SpreadsNot numbers.now call.now.caller call.now.callee call.now.by callers.now self.old.times.items self.old.handed.items self.old.queue.items self.old.room) }
+    {
+        if !self.raise_all(numbers, call, &[call.caller], 1)? {
+            return Ok(false);
+        }
+        self.follow(numbers, callers, call)
+    }
+
+    /// Empties the tables where the numbers came.
+    fn clear(&mut self)
+        requires handed { length self.old.handed.items ≡ length self.old.times.items }
+        requires inside { AllByRecursion (λ x. x < length self.old.times.items) self.old.queue.items }
+        requires times { (x : ℕ) → has_number self.old.queue.items x ≡ false → number_at self.old.times.items x ≡ 0 }
+        requires below { (x : ℕ) → number_at self.old.handed.items x ≤ number_at self.old.times.items x }
+        ensures times { (x : ℕ) → number_at self.new.times.items x ≡ 0 }
+        ensures handed { (x : ℕ) → number_at self.new.handed.items x ≡ 0 }
+        ensures queue { self.new.queue.items ≡ [] }
+        ensures sized { length self.new.times.items ≡ length self.old.times.items }
+        ensures same { length self.new.handed.items ≡ length self.old.times.items }
+        ensures room { self.new.room ≡ self.old.room }
+    {
+        for next in 0..self.queue.len() {
+            let at = self.queue[next] as usize;
+            self.times[at] = 0;
+            self.handed[at] = 0;
+        }
+        self.queue.clear();
+    }
+
     /// Follows the callers of the routines in the queue, and of those that come to it. Tells whether they all stay within
     /// the limits.
     fn follow(

@@ -1,4 +1,4 @@
-use Rattle.std.proofs.Common.{◌≡◌, ◌+◌, ◌-◌, length, map}
+use Rattle.std.proofs.Common.{◌+◌, ◌-◌, length}
 use Rattle.inline_budget.proofs.Followed.{IsFollowing}
 use Rattle.inline_budget.proofs.attempt.Attempt.follow.Given as goal
 

@@ -1,4 +1,4 @@
-use Rattle.std.proofs.Common.{ℕ, arith, length}
+use Rattle.std.proofs.Common.{arith}
 use Rattle.inline_budget.proofs.Followed.{handed_none, handed_some, handed_not}
 use Rattle.inline_budget.proofs.attempt.Attempt.hand_on.Goals as goal
 
