@@ -5,3 +5,10 @@ pub mod Passing
 pub mod Levelled
 pub mod Turns
 pub mod Waved
+pub mod Inlined
+pub mod Attempts
+pub mod Squares
+pub mod Decided
+pub mod Raised
+pub mod Followed
+pub mod Cleared

@@ -1,3 +1,5 @@
 pub mod Buckets
 pub mod Calls
 pub mod Levelling
+pub mod Attempts
+pub mod Following
