@@ -10,7 +10,10 @@
 //! and `call_graph` the cost, the routines that `main` reaches, and the others.
 #![tactic(auto)]
 
+mod calls;
 mod changes;
+mod groups;
+mod profiles;
 mod session;
 mod telling;
 

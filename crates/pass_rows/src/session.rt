@@ -1,15 +1,18 @@
 //! A session: the program that stands so far, and what passes make of it.
+use crate::calls::change_calls;
 use crate::changes::change;
+use crate::groups::tell_groups;
+use crate::profiles::tell_profile;
 use crate::telling::tell;
 use il_text::read_il;
 use std::alloc::{AllocError, Global};
 
-/// Holds the text of the last program.
+/// Holds the text of the last program or profile.
 #[derive(Drop)]
 pub struct Session {
     text: Vec<u8>,
-    /// Whether its last line is still to come.
-    is_open: bool,
+    /// The last line of the text, where that is still to come.
+    last: Option<&'static str>,
 }
 
 impl Session {
@@ -17,7 +20,7 @@ impl Session {
     pub fn new(alloc: Global) -> Session {
         Session {
             text: Vec::new(alloc),
-            is_open: false,
+            last: None,
         }
     }
 
@@ -34,30 +37,64 @@ impl Session {
         Ok(shown)
     }
 
-    /// Takes in a line of a program; others are headings.
+    /// Takes in a line of a program or a profile; others are headings.
     fn take_in(&mut self, line: &str) -> Result<(), AllocError> {
-        if line == "hlo-il 1" {
+        if let Some(last) = last_line(line) {
             self.text.clear();
-            self.is_open = true;
+            self.last = Some(last);
         }
-        if self.is_open {
+        if let Some(last) = self.last {
             self.text.extend_from_slice(line.as_bytes())?;
             self.text.push(b'\n')?;
-        }
-        if line == "done" {
-            self.is_open = false;
+            if line == last {
+                self.last = None;
+            }
         }
         Ok(())
     }
 }
 
-/// What a pass answers to the text of a program.
+/// The last line of a text that begins with this one.
+fn last_line(line: &str) -> Option<&'static str> {
+    if line == "hlo-il 1" {
+        Some("done")
+    } else if line == "profile 1" {
+        Some("end")
+    } else {
+        None
+    }
+}
+
+/// What a pass answers to the text of a program or a profile.
 fn answer(alloc: Global, pass: &str, text: &[u8], shown: &mut Vec<u8>) -> Result<(), AllocError> {
+    let words: Vec<&str> = pass.split(' ').collect(alloc)?;
+    let numbers = numbers(alloc, words.as_slice())?;
+    let word = words[0];
+    if tell_profile(alloc, word, numbers.as_slice(), text, shown)? {
+        return Ok(());
+    }
     let Ok(program) = read_il(alloc, text) else {
         return shown.extend_from_slice(b"no valid program\n");
     };
+    if word == "group" && tell_groups(alloc, numbers.as_slice(), &program, shown)? {
+        return Ok(());
+    }
+    if change_calls(alloc, word, numbers.as_slice(), &program, shown)? {
+        return Ok(());
+    }
     if !tell(alloc, pass, &program, shown)? {
         change(alloc, pass, &program, shown)?;
     }
     Ok(())
+}
+
+/// The numbers among the words.
+fn numbers(alloc: Global, words: &[&str]) -> Result<Vec<u32>, AllocError> {
+    let mut numbers = Vec::new(alloc);
+    for word in words {
+        if let Ok(number) = word.parse::<u32>() {
+            numbers.push(number)?;
+        }
+    }
+    Ok(numbers)
 }

@@ -47,7 +47,7 @@ fn tell_routines(
     Ok(())
 }
 
-fn summary(alloc: Global, routine: &Routine) -> Result<Summary, AllocError>
+pub(crate) fn summary(alloc: Global, routine: &Routine) -> Result<Summary, AllocError>
     requires { IsValidRoutine routine.now }
 {
     let known = site_constants(alloc, routine)?;
@@ -99,7 +99,7 @@ fn tell_words(words: &[Option<Word>], shown: &mut Vec<u8>) -> Result<(), AllocEr
     Ok(())
 }
 
-fn tell_number(number: u32, shown: &mut Vec<u8>) -> Result<(), AllocError> {
+pub(crate) fn tell_number(number: u32, shown: &mut Vec<u8>) -> Result<(), AllocError> {
     let mut text = String::new(*shown.allocator());
     write!(text, " {number}")?;
     shown.extend_from_slice(text.as_bytes())
@@ -132,7 +132,7 @@ fn graph(alloc: Global, program: &IlProgram) -> Result<CallGraph, AllocError>
 }
 
 /// The number of `main`, or 0.
-fn main_of(program: &IlProgram) -> u32 {
+pub(crate) fn main_of(program: &IlProgram) -> u32 {
     for row in program.shapes.rows.as_slice() {
         if row.name.bytes() == b"main".as_slice() {
             return row.pid;
@@ -141,7 +141,7 @@ fn main_of(program: &IlProgram) -> u32 {
     0
 }
 
-fn tell_numbers(numbers: &[u32], shown: &mut Vec<u8>) -> Result<(), AllocError> {
+pub(crate) fn tell_numbers(numbers: &[u32], shown: &mut Vec<u8>) -> Result<(), AllocError> {
     for number in numbers {
         tell_number(*number, shown)?;
     }
