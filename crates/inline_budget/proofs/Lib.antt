@@ -18,3 +18,4 @@ pub mod Ordered
 pub mod Chosen
 pub mod Seen
 pub mod Offered
+pub mod Programs
