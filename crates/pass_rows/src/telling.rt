@@ -1,7 +1,13 @@
 //! What passes tell of routines.
+ghost use Rattle.std.specs.Prelude.{◌≡◌, IfOk};
+ghost use Rattle.std.specs.List.{AllByRecursion};
+ghost use Rattle.il_core.specs.Limits.{IsWithinLimits};
 ghost use Rattle.il_core.specs.Valid.{IsProgram};
 ghost use Rattle.const_prop.specs.Tables.{IsValidRoutine};
+ghost use Rattle.plan_laws.specs.Summary as plan;
+ghost use Rattle.call_graph.specs.Summaries.{summary_of};
 
+use crate::choosing::tell_choice;
 use call_graph::{CallGraph, Summary, summarise};
 use const_prop::site_constants;
 use hlo_num::Word;
@@ -16,8 +22,13 @@ pub(crate) fn tell(
     program: &IlProgram,
     shown: &mut Vec<u8>,
 ) -> Result<bool, AllocError>
-    requires { IsProgram program.now }
+    requires valid { IsProgram program.now }
+    requires within { AllByRecursion IsWithinLimits program.now.routines }
 {
+    if let Some(limit) = limit_of(pass) {
+        tell_choice(alloc, limit, program, shown)?;
+        return Ok(true);
+    }
     if pass == "site_constants" || pass == "summarise" {
         tell_routines(alloc, pass == "summarise", program, shown)?;
         Ok(true)
@@ -27,6 +38,11 @@ pub(crate) fn tell(
     } else {
         Ok(false)
     }
+}
+
+/// The limit of the cost, where it is asked what is inlined.
+fn limit_of(pass: &str) -> Option<u64> {
+    pass.strip_prefix("choose ")?.parse::<u64>().ok()
 }
 
 fn tell_routines(
@@ -47,8 +63,9 @@ fn tell_routines(
     Ok(())
 }
 
-fn summary(alloc: Global, routine: &Routine) -> Result<Summary, AllocError>
+pub(crate) fn summary(alloc: Global, routine: &Routine) -> Result<Summary, AllocError>
     requires { IsValidRoutine routine.now }
+    ensures { IfOk result (λ s. summary_of s ≡ plan.summary routine.now) }
 {
     let known = site_constants(alloc, routine)?;
     summarise(alloc, routine, known, 0)
@@ -99,7 +116,7 @@ fn tell_words(words: &[Option<Word>], shown: &mut Vec<u8>) -> Result<(), AllocEr
     Ok(())
 }
 
-fn tell_number(number: u32, shown: &mut Vec<u8>) -> Result<(), AllocError> {
+pub(crate) fn tell_number(number: u32, shown: &mut Vec<u8>) -> Result<(), AllocError> {
     let mut text = String::new(*shown.allocator());
     write!(text, " {number}")?;
     shown.extend_from_slice(text.as_bytes())
@@ -132,7 +149,7 @@ fn graph(alloc: Global, program: &IlProgram) -> Result<CallGraph, AllocError>
 }
 
 /// The number of `main`, or 0.
-fn main_of(program: &IlProgram) -> u32 {
+pub(crate) fn main_of(program: &IlProgram) -> u32 {
     for row in program.shapes.rows.as_slice() {
         if row.name.bytes() == b"main".as_slice() {
             return row.pid;
@@ -141,7 +158,7 @@ fn main_of(program: &IlProgram) -> u32 {
     0
 }
 
-fn tell_numbers(numbers: &[u32], shown: &mut Vec<u8>) -> Result<(), AllocError> {
+pub(crate) fn tell_numbers(numbers: &[u32], shown: &mut Vec<u8>) -> Result<(), AllocError> {
     for number in numbers {
         tell_number(*number, shown)?;
     }
