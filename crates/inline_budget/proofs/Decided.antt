@@ -23,7 +23,8 @@ use Rattle.inline_budget.proofs.Tables.{same_bad, set_is}
 use Rattle.inline_budget.proofs.Levelled.{level_least}
 use Rattle.inline_budget.proofs.Attempts.{squares_set}
 use Rattle.inline_budget.proofs.Inlined.{Measure, AreOnce, IsSite, own_at, extra_at, extra_of, low, exact}
-use Rattle.inline_budget.proofs.Squares.{AreApart, squares_sum, sum_most}
+use Rattle.inline_budget.specs.Linked.{AreApart}
+use Rattle.inline_budget.proofs.Squares.{squares_sum, sum_most}
 
 -- ---- the four measures
 
@@ -212,7 +213,7 @@ pub record IsCandidate (ss : List Summary) (cs : Calls) (T : List Numbers) (p k 
   pub once : AreOnce (cs ++ record { caller = p; site = k; callee = q } ∷ [])
   pub sites : AllByRecursion (IsSite ss) (cs ++ record { caller = p; site = k; callee = q } ∷ [])
 
-here_all : (ss : List Summary) → AreApart ss → AllByRecursion (λ s. summary_at ss s.pid ≡ Some s) ss
+pub here_all : (ss : List Summary) → AreApart ss → AllByRecursion (λ s. summary_at ss s.pid ≡ Some s) ss
 here_all [] h = tt
 here_all (s ∷ ss) h = (
   ap (λ (b : Bool). if b then Some s else summary_at ss s.pid) (eq-eqb s.pid s.pid refl),

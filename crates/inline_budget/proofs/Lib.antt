@@ -12,3 +12,10 @@ pub mod Decided
 pub mod Raised
 pub mod Followed
 pub mod Cleared
+pub mod Giving
+pub mod Filled
+pub mod Ordered
+pub mod Chosen
+pub mod Seen
+pub mod Offered
+pub mod Programs

@@ -1,12 +1,13 @@
 -- The squares over a table are those over the summaries.
 use Rattle.std.proofs.Common.{◌≡◌, ℕ, zero, suc, ◌+◌, ◌*◌, ◌<◌, ◌≤◌, List, [], ◌∷◌, length, Bool, true, false, refl, ap, sym, ◌∙◌, arith, eqb-true, ltb-true, ltb-false, lt-ltb}
-use Rattle.std.specs.Prelude.{◌^◌, ⊤, nat_eq, nat_lt, if◌then◌else◌, sum_by, Option, Some, None}
+use Rattle.std.specs.Prelude.{◌^◌, nat_eq, nat_lt, if◌then◌else◌, sum_by, Option, Some, None}
 use Rattle.std.specs.List.{AllByRecursion}
 use Rattle.std.proofs.lemmas.List.Sums.{sum_by-cons}
 use Rattle.plan_laws.specs.Summary.{Summary, summary_at}
 use Rattle.inline_budget.specs.declared.numbers.Numbers.{Numbers}
 use Rattle.inline_budget.specs.Calls.{only_if, number_at}
 use Rattle.inline_budget.specs.Attempts.{numbers_at, squares}
+use Rattle.inline_budget.specs.Linked.{AreApart}
 use Rattle.inline_budget.proofs.Tables.{same_bad}
 
 abbrev range_sum : (ℕ → ℕ) → ℕ → ℕ → ℕ
@@ -34,11 +35,6 @@ squares_range [] by (t ∷ ts) e = absurd (omega arith)
 squares_range (n ∷ T) by [] e = absurd (omega arith)
 squares_range (n ∷ T) by (t ∷ ts) e =
     ap (λ (r : ℕ). (n.size + by * t) ^ 2 + r) (squares_range T by ts (omega arith) ∙ sym (range_shift (square_at (n ∷ T) by (t ∷ ts)) 0 (length T)))
-
--- no PID stands twice
-abbrev pub AreApart : List Summary → Type 0
-AreApart [] = ⊤
-AreApart (s ∷ ss) = (summary_at ss s.pid ≡ None) × AreApart ss
 
 module _ (H : ℕ → ℕ) where
   abbrev below_sum : ℕ → List Summary → ℕ

@@ -1,8 +1,8 @@
 -- What following callers does to the tables, whatever the accepted calls are.
-use Rattle.std.specs.Prelude.{◌≡◌, ℕ, suc, ◌<◌, ◌≤◌, ◌^◌, false, List, [], ◌∷◌, length, slice_index_or}
+use Rattle.std.specs.Prelude.{◌≡◌, ℕ, suc, ◌+◌, ◌<◌, ◌≤◌, ◌^◌, false, List, [], ◌∷◌, length, slice_index_or}
 use Rattle.std.specs.List.{AllByRecursion}
 use Rattle.inline_budget.specs.declared.numbers.Numbers.{Numbers}
-use Rattle.inline_budget.specs.Attempts.{AreFew, IsWithin, IsAttempt, IsRefused, IsTaken, numbers_at}
+use Rattle.inline_budget.specs.Attempts.{AreFew, IsWithin, IsAttempt, IsRefused, IsTaken, grown, numbers_at, squares}
 use Rattle.inline_budget.specs.Calls.{Calls, callers_of, has_number, number_at}
 
 -- what a call brings: a size of at least 1, and not too much for sums
@@ -64,3 +64,32 @@ Spreads T p q by lists ts hs ks room us now =
 abbrev pub SpreadsNot : List Numbers → ℕ → ℕ → Numbers → List (List ℕ) → List ℕ → List ℕ → List ℕ → ℕ → Type 0
 SpreadsNot T p q by lists ts hs ks room =
     (cs : Calls) (limit : ℕ) → AreCallers cs lists → IsAttempt cs T p q by limit ts hs ks 0 room 1 (p ∷ []) → IsRefused cs T p q by limit
+
+-- ---- a whole attempt
+
+-- the lists are the callers of some calls
+pub record HasCalls (lists : List (List ℕ)) : Type 0 where
+  pub calls : Calls
+  pub are : AreCallers calls lists
+
+-- the tables are empty, and go up to the same PID as the numbers, which are within the limits
+pub record IsIdle (T : List Numbers) (ts hs ks : List ℕ) : Type 0 where
+  pub times : length ts ≡ length T
+  pub handed : length hs ≡ length T
+  pub within : (x : ℕ) → IsWithin (numbers_at T x)
+  pub no_times : (x : ℕ) → number_at ts x ≡ 0
+  pub no_handed : (x : ℕ) → number_at hs x ≡ 0
+  pub no_queue : ks ≡ []
+
+-- the call is taken: each routine's numbers grow as often as those of q come to it
+pub record Grows (T : List Numbers) (p q : ℕ) (by : Numbers) (lists : List (List ℕ)) (room : ℕ) (U : List Numbers) (now : ℕ) : Type 0 where
+  pub ts : List ℕ
+  pub size : length ts ≡ length T
+  pub long : length U ≡ length T
+  pub grows : (x : ℕ) → numbers_at U x ≡ grown (numbers_at T x) by (number_at ts x)
+  pub taken : (cs : Calls) (limit : ℕ) → AreCallers cs lists → room + squares T 0 [] ≡ limit → IsTaken cs T p q by limit ts now
+
+-- it is refused
+abbrev pub GrowsNot : List Numbers → ℕ → ℕ → Numbers → List (List ℕ) → ℕ → Type 0
+GrowsNot T p q by lists room =
+    (cs : Calls) (limit : ℕ) → AreCallers cs lists → room + squares T 0 [] ≡ limit → IsRefused cs T p q by limit

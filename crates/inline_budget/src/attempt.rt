@@ -1,12 +1,13 @@
 //! Whether a call may be inlined beside those that are accepted: its callee's numbers come to its caller, and from each
 //! routine to the callers of the calls to it.
-ghost use Rattle.std.specs.Prelude.{◌≡◌, ◌+◌, ◌<◌, ◌≤◌, ◌^◌, ℕ, [], true, false, IfOk, Some, None, length, slice_index_or, slice_set};
+ghost use Rattle.std.specs.Prelude.{◌≡◌, ◌+◌, ◌<◌, ◌≤◌, ◌^◌, ℕ, [], true, false, IfOk, Some, None, length, replicate, slice_index_or, slice_set};
 ghost use Rattle.std.specs.List.{AllByRecursion};
-ghost use Rattle.inline_budget.specs.Attempts.{AreFew, IsWithin, numbers_at, room_after};
+ghost use Rattle.inline_budget.specs.Attempts.{AreFew, IsWithin, grown, numbers_at, room_after};
 ghost use Rattle.inline_budget.specs.Calls.{has_number, number_at};
-ghost use Rattle.inline_budget.specs.Following.{AreBrief, Follows, FollowsNot, Hands, HandsNot, IsReady, Raises, Refuses, Spreads, SpreadsNot};
+ghost use Rattle.inline_budget.specs.Following.{AreBrief, Follows, FollowsNot, Grows, GrowsNot, Hands, HandsNot, HasCalls, IsIdle, IsReady, Raises, Refuses, Spreads, SpreadsNot};
 
 use crate::buckets::Buckets;
+use crate::choice::Choice;
 use crate::numbers::{Numbers, grown, is_within, rise};
 use std::alloc::{AllocError, Global};
 
@@ -17,6 +18,18 @@ pub(crate) struct Candidate {
     pub site: u32,
     pub callee: u32,
     pub by: Numbers,
+}
+
+impl Candidate {
+    pub(crate) fn choice(&self) -> Choice
+        ensures { result ≡ record { caller = self.now.caller; site = self.now.site; callee = self.now.callee } }
+    {
+        Choice {
+            caller: self.caller,
+            site: self.site,
+            callee: self.callee,
+        }
+    }
 }
 
 /// Room to follow the callers of a call.
@@ -33,6 +46,76 @@ pub(crate) struct Attempt {
 }
 
 impl Attempt {
+    /// Nothing has come to a routine.
+    pub(crate) fn new(alloc: Global, bound: usize, room: u64) -> Result<Attempt, AllocError>
+        ensures times { IfOk result (λ a. a.times.items ≡ replicate bound 0) }
+        ensures handed { IfOk result (λ a. a.handed.items ≡ replicate bound 0) }
+        ensures queue { IfOk result (λ a. a.queue.items ≡ []) }
+        ensures room { IfOk result (λ a. a.room ≡ room) }
+    {
+        let times = vec![in alloc; 0; bound]?;
+        let handed = vec![in alloc; 0; bound]?;
+        Ok(Attempt {
+            times,
+            handed,
+            queue: Vec::new(alloc),
+            room,
+        })
+    }
+
+    /// Takes a call, where it may be inlined beside those to which the callers belong: gives its callee's numbers to all
+    /// routines to which they come. Tells whether it did; else nothing changes.
+    pub(crate) fn decide(
+        &mut self,
+        numbers: &mut [Numbers],
+        callers: &Buckets,
+        call: &Candidate,
+    ) -> Result<bool, AllocError>
+        requires idle { IsIdle numbers.old self.old.times.items self.old.handed.items self.old.queue.items }
+        requires calls { HasCalls callers.now }
+        requires caller { call.now.caller < length numbers.old }
+        requires lists { length callers.now ≡ length numbers.old }
+        requires inside { (y : ℕ) → AllByRecursion (λ x. x < length numbers.old) (slice_index_or callers.now y []) }
+        requires by { AreBrief call.now.by }
+        ensures idle { IfOk result (λ _. IsIdle numbers.new self.new.times.items self.new.handed.items self.new.queue.items) }
+        ensures taken { IfOk result (λ b. b ≡ true → Grows numbers.old call.now.caller call.now.callee call.now.by callers.now self.old.room numbers.new self.new.room) }
+        ensures refused { IfOk result (λ b. b ≡ false → GrowsNot numbers.old call.now.caller call.now.callee call.now.by callers.now self.old.room) }
+        ensures kept { IfOk result (λ b. b ≡ false → numbers.new ≡ numbers.old) }
+        ensures room { IfOk result (λ b. b ≡ false → self.new.room ≡ self.old.room) }
+    {
+        let room = self.room;
+        if self.spread(numbers, callers, call)? {
+            self.give(numbers, call.by);
+            return Ok(true);
+        }
+        self.clear();
+        self.room = room;
+        Ok(false)
+    }
+
+    /// Gives the numbers to the routines to which they came, and empties the tables.
+    fn give(&mut self, numbers: &mut [Numbers], by: Numbers)
+        requires ready { IsReady numbers.old self.old.times.items self.old.handed.items self.old.queue.items }
+        requires grown { (x : ℕ) → IsWithin (grown (numbers_at numbers.old x) by (number_at self.old.times.items x)) }
+        requires by { AreFew by }
+        ensures numbers { (x : ℕ) → numbers_at numbers.new x ≡ grown (numbers_at numbers.old x) by (number_at self.old.times.items x) }
+        ensures long { length numbers.new ≡ length numbers.old }
+        ensures times { (x : ℕ) → number_at self.new.times.items x ≡ 0 }
+        ensures handed { (x : ℕ) → number_at self.new.handed.items x ≡ 0 }
+        ensures queue { self.new.queue.items ≡ [] }
+        ensures sized { length self.new.times.items ≡ length numbers.old }
+        ensures same { length self.new.handed.items ≡ length numbers.old }
+        ensures room { self.new.room ≡ self.old.room }
+    {
+        for next in 0..self.queue.len() {
+            let at = self.queue[next] as usize;
+            numbers[at] = grown(numbers[at], by, self.times[at]);
+            self.times[at] = 0;
+            self.handed[at] = 0;
+        }
+        self.queue.clear();
+    }
+
     /// Lets the numbers come to the caller, and follows the callers from it on. Tells whether they all stay within the
     /// limits.
     fn spread(

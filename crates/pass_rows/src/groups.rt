@@ -6,7 +6,8 @@ ghost use Rattle.call_graph.specs.Summaries.{summary_of};
 ghost use Rattle.clone_groups.specs.Gathering.{IsSmall};
 
 use crate::calls::constants;
-use crate::telling::{main_of, summary, tell_number, tell_numbers};
+use crate::choosing::summaries;
+use crate::telling::{main_of, tell_number, tell_numbers};
 use call_graph::Summary;
 use clone_groups::{CloneTable, Group, group};
 use il_core::{IlProgram, limits};
@@ -37,17 +38,6 @@ pub(crate) fn tell_groups(
         tell_group(group, shown)?;
     }
     Ok(true)
-}
-
-/// The summary of each routine.
-fn summaries(alloc: Global, program: &IlProgram) -> Result<Vec<Summary>, AllocError>
-    requires { IsProgram program.now }
-{
-    let mut summaries = Vec::new(alloc);
-    for routine in program.routines.as_slice() {
-        summaries.push(summary(alloc, routine)?)?;
-    }
-    Ok(summaries)
 }
 
 /// Whether the numbers of summaries are within the limits.

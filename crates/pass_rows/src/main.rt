@@ -7,11 +7,13 @@
 //!
 //! The passes: `propagate`, `fold_branches`, `drop_unreachable`, `drop_dead_writes`, `merge_blocks` and `simplify`
 //! change routines; `site_constants` tells the words that are known at each call, `summarise` a routine's summary,
-//! and `call_graph` the cost, the routines that `main` reaches, and the others.
+//! `call_graph` the cost, the routines that `main` reaches, and the others, and `choose LIMIT` the calls that are inlined
+//! under a limit of the cost, with their waves.
 #![tactic(auto)]
 
 mod calls;
 mod changes;
+mod choosing;
 mod groups;
 mod profiles;
 mod session;

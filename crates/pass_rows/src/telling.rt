@@ -1,7 +1,13 @@
 //! What passes tell of routines.
+ghost use Rattle.std.specs.Prelude.{◌≡◌, IfOk};
+ghost use Rattle.std.specs.List.{AllByRecursion};
+ghost use Rattle.il_core.specs.Limits.{IsWithinLimits};
 ghost use Rattle.il_core.specs.Valid.{IsProgram};
 ghost use Rattle.const_prop.specs.Tables.{IsValidRoutine};
+ghost use Rattle.plan_laws.specs.Summary as plan;
+ghost use Rattle.call_graph.specs.Summaries.{summary_of};
 
+use crate::choosing::tell_choice;
 use call_graph::{CallGraph, Summary, summarise};
 use const_prop::site_constants;
 use hlo_num::Word;
@@ -16,8 +22,13 @@ pub(crate) fn tell(
     program: &IlProgram,
     shown: &mut Vec<u8>,
 ) -> Result<bool, AllocError>
-    requires { IsProgram program.now }
+    requires valid { IsProgram program.now }
+    requires within { AllByRecursion IsWithinLimits program.now.routines }
 {
+    if let Some(limit) = limit_of(pass) {
+        tell_choice(alloc, limit, program, shown)?;
+        return Ok(true);
+    }
     if pass == "site_constants" || pass == "summarise" {
         tell_routines(alloc, pass == "summarise", program, shown)?;
         Ok(true)
@@ -27,6 +38,11 @@ pub(crate) fn tell(
     } else {
         Ok(false)
     }
+}
+
+/// The limit of the cost, where it is asked what is inlined.
+fn limit_of(pass: &str) -> Option<u64> {
+    pass.strip_prefix("choose ")?.parse::<u64>().ok()
 }
 
 fn tell_routines(
@@ -49,6 +65,7 @@ fn tell_routines(
 
 pub(crate) fn summary(alloc: Global, routine: &Routine) -> Result<Summary, AllocError>
     requires { IsValidRoutine routine.now }
+    ensures { IfOk result (λ s. summary_of s ≡ plan.summary routine.now) }
 {
     let known = site_constants(alloc, routine)?;
     summarise(alloc, routine, known, 0)
