@@ -23,7 +23,7 @@ use Rattle.c_module.specs.declared.fault.Stop.TheVariants as stop
 use Rattle.c_module.specs.declared.fault.TakeFault.{TakeFault}
 use Rattle.c_module.specs.declared.fault.TakeFault.TheVariants as take
 
--- The names are those of modules, and of the routines of their functions the last ones were taken.
+-- The names are those of modules with some functions, and what was taken are the routines of the last of these.
 pub record AreTaken (counts : Counts) (rs : List RoutineParts) (syms : Table) : Type 0 where
   pub before : List Function
   pub lowered : List Function
