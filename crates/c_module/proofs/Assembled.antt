@@ -1,25 +1,21 @@
--- The program that is put together of the routines of functions is their lowered program.
-use Rattle.std.proofs.Common.{◌≡◌, ℕ, zero, suc, ◌+◌, ◌<◌, Bool, true, false, List, [], ◌∷◌, ◌++◌, map, length, Option, Some, None, refl, sym, ◌∙◌, ap, subst, arith, slice_set}
-use Rattle.std.specs.Prelude.{◌||◌, nat_eq, is_some, replicate, if◌then◌else◌}
+-- Routines by PID.
+use Rattle.std.proofs.Common.{◌≡◌, ℕ, zero, suc, ◌+◌, ◌<◌, ◌≤◌, Bool, true, false, List, [], ◌∷◌, ◌++◌, map, length, Option, Some, None, refl, sym, ◌∙◌, ap, subst, arith, slice_set, inl, inr}
+use Rattle.std.specs.Prelude.{nat_eq, is_some, replicate, if◌then◌else◌}
 use Rattle.std.specs.List.{AllByRecursion}
-use Rattle.std.proofs.lemmas.List.{append-nil, append_assoc}
-use Rattle.il_core.specs.declared.shape.ShapeRow.{ShapeRow}
-use Rattle.il_core.specs.Object.{ObjectParts}
+use Rattle.std.proofs.lemmas.Bool.{cases_lt}
+use Rattle.std.proofs.lemmas.List.{append-nil}
+use Rattle.std.proofs.Math.Nat.{eq-or-lt_of_le}
 use Rattle.il_core.specs.Program.{routine_at}
 use Rattle.il_core.specs.Routine.{RoutineParts}
-use Rattle.il_core.proofs.Found.{found_here, found_there}
+use Rattle.il_core.proofs.Found.{found_here, found_number, found_there}
 use Rattle.list_laws.proofs.Elements.{onto}
-use Rattle.list_laws.proofs.Entries.{number_itself, other_number}
 use Rattle.profile.specs.Counts.{Counts}
-use Rattle.sym_tables.specs.declared.symbol.Symbol.{Symbol}
-use Rattle.sym_tables.specs.Listing.{is_object, objects, objects_at, objects_from, shape_of, shapes, shapes_from, trimmed}
-use Rattle.sym_tables.specs.Entities.{words}
 use Rattle.sym_tables.specs.Table.{Table}
 use Rattle.c_typed.specs.Meaning.{function_at}
 use Rattle.c_typed.specs.Trees.{Function}
 use Rattle.c_lower.specs.Lowering.{entry_of, routine_of, sites_of}
-use Rattle.lower_laws.specs.Programs.{lowered_program, routines_at, routines_from, rows_from}
-use Rattle.c_module.specs.Assembling.{assembled, has_object, has_routine, kept_rows, objects_behind, other_objects, other_slots, present, row_if, rows_of, slots, slots_behind}
+use Rattle.lower_laws.specs.Programs.{routines_at, routines_from}
+use Rattle.c_module.specs.Assembling.{by_pid, present, slots}
 use Rattle.c_module.proofs.Elements.{all_behind, all_front}
 
 -- ## Slots
@@ -92,25 +88,6 @@ present_more [] x = refl
 present_more (None ∷ xs) x = present_more xs x
 present_more (Some r ∷ xs) x = ap (λ l. r ∷ l) (present_more xs x)
 
-pub slots_more : (xs : List (Option RoutineParts)) (rows : List ShapeRow) (row : ShapeRow)
-    → slots_behind xs (rows ++ row ∷ []) ≡ other_slots (slots_behind xs rows)
-slots_more xs [] row = refl
-slots_more xs (x ∷ rows) row = slots_more (other_slots xs) rows row
-
-pub objects_more : (os : List ObjectParts) (rows : List ShapeRow) (row : ShapeRow)
-    → objects_behind os (rows ++ row ∷ []) ≡ other_objects (objects_behind os rows) row.pid
-objects_more os [] row = refl
-objects_more os (x ∷ rows) row = objects_more (other_objects os x.pid) rows row
-
-pub kept_more : (xs : List (Option RoutineParts)) (os : List ObjectParts) (rows : List ShapeRow) (row : ShapeRow)
-    → kept_rows xs os (rows ++ row ∷ []) ≡ kept_rows xs os rows ++ row_if
-    (has_routine (slots_behind xs rows) || has_object (objects_behind os rows) row.pid) row
-kept_more xs os [] row = append-nil (row_if (has_routine xs || has_object os row.pid) row)
-kept_more xs os (x ∷ rows) row =
-    let here = row_if (has_routine xs || has_object os x.pid) x in
-    ap (λ l. here ++ l) (kept_more (other_slots xs) (other_objects os x.pid) rows row)
-    ∙ sym (append_assoc here (kept_rows (other_slots xs) (other_objects os x.pid) rows) _)
-
 pub present_some : (ys : List (Option RoutineParts)) (x : Option RoutineParts) (r : RoutineParts) (old new : List RoutineParts) → old ≡ present ys
     → new ≡ old ++ r ∷ [] → x ≡ Some r → new ≡ present (ys ++ x ∷ [])
 present_some ys x r old new known added is =
@@ -121,18 +98,7 @@ pub present_none : (ys : List (Option RoutineParts)) (x : Option RoutineParts) (
 present_none ys x old known is =
     known ∙ sym (append-nil (present ys)) ∙ ap (λ o. present ys ++ present (o ∷ [])) (sym is) ∙ sym (present_more ys x)
 
-pub kept_step : (xs : List (Option RoutineParts)) (os : List ObjectParts) (ys : List ShapeRow) (row : ShapeRow) (old new : List ShapeRow)
-    (left_slots : List (Option RoutineParts)) (left : List ObjectParts) (a b : Bool)
-    → old ≡ kept_rows xs os ys → left_slots ≡ slots_behind xs ys → left ≡ objects_behind os ys → a ≡ has_routine left_slots → b ≡ has_object left row.pid
-    → new ≡ old ++ row_if (a || b) row → new ≡ kept_rows xs os (ys ++ row ∷ [])
-kept_step xs os ys row old new left_slots left a b known is_slots is_left is_a is_b added =
-    added
-    ∙ ap (λ l. l ++ row_if (a || b) row) known
-    ∙ ap (λ c. kept_rows xs os ys ++ row_if (c || b) row) (is_a ∙ ap has_routine is_slots)
-    ∙ ap (λ c. kept_rows xs os ys ++ row_if (has_routine (slots_behind xs ys) || c) row) (is_b ∙ ap (λ l. has_object l row.pid) is_left)
-    ∙ sym (kept_more xs os ys row)
-
--- ## The lowered program
+-- ## The lowered routines
 
 -- the routine that is made of a function, if there is one
 abbrev made : Table → Counts → Option Function → Option RoutineParts
@@ -170,91 +136,62 @@ made_some : (syms : Table) (counts : Counts) (o : Option Function) → is_some (
 made_some syms counts None = refl
 made_some syms counts (Some f) = refl
 
--- the object of a PID
-abbrev object_of : ℕ → Symbol → ObjectParts
-object_of pid s = record { pid = pid; words = words s.entity; init = trimmed s.init }
-
--- objects of later names
-later_objects : (b pid : ℕ) (es : Table) → pid < b
-    → (has_object (objects_from b es) pid ≡ false) × (other_objects (objects_from b es) pid ≡ objects_from b es)
-later_objects b pid [] less = (refl, refl)
-later_objects b pid (e ∷ es) less = by_test (is_object e.1) (later_objects (suc b) pid es (omega (arith, less)))
-  where
-    by_test : (c : Bool) → (has_object (objects_from (suc b) es) pid ≡ false) × (other_objects (objects_from (suc b) es) pid ≡ objects_from (suc b) es)
-        → (has_object ((if c then object_of b e.1 ∷ [] else []) ++ objects_from (suc b) es) pid ≡ false)
-        × (other_objects ((if c then object_of b e.1 ∷ [] else []) ++ objects_from (suc b) es) pid ≡
-        (if c then object_of b e.1 ∷ [] else []) ++ objects_from (suc b) es)
-    by_test true more =
-        let no : nat_eq b pid ≡ false = other_number b pid (λ e. omega (arith, e, less)) in
-        (no, ap (λ c. if c then objects_from (suc b) es else object_of b e.1 ∷ objects_from (suc b) es) no)
-    by_test false more = more
-
--- the object of a name comes first where it is one
-first_object : (pid : ℕ) (s : Symbol) (es : Table) → (has_object (objects_at pid s ++ objects_from (suc pid) es) pid ≡ is_object s)
-    × (other_objects (objects_at pid s ++ objects_from (suc pid) es) pid ≡ objects_from (suc pid) es)
-first_object pid s es = by_test (is_object s)
-  where
-    by_test : (c : Bool) → (has_object ((if c then object_of pid s ∷ [] else []) ++ objects_from (suc pid) es) pid ≡ c)
-        × (other_objects ((if c then object_of pid s ∷ [] else []) ++ objects_from (suc pid) es) pid ≡ objects_from (suc pid) es)
-    by_test true =
-        let same = number_itself pid in
-        (same, ap (λ c. if c then objects_from (suc pid) es else object_of pid s ∷ objects_from (suc pid) es) same)
-    by_test false = later_objects (suc pid) pid es (omega arith)
-
 module _ (syms : Table) (counts : Counts) (fs : List Function) where
-  abbrev rs : List RoutineParts
-  rs = map (routine_of syms counts) fs
-
-  routines_are : (pid : ℕ) (es : Table) → present (slots rs pid (length es)) ≡ routines_from (entry_of syms counts) (sites_of syms counts) fs pid es
+  pub routines_are : (pid : ℕ) (es : Table)
+      → present (slots (map (routine_of syms counts) fs) pid (length es)) ≡ routines_from (entry_of syms counts) (sites_of syms counts) fs pid es
   routines_are pid [] = refl
   routines_are pid (e ∷ es) =
+      let rs = map (routine_of syms counts) fs in
       present_first (routine_at rs pid) (slots rs (suc pid) (length es))
       ∙ ap (λ x. present (x ∷ []) ++ present (slots rs (suc pid) (length es))) (found_made syms counts fs pid)
       ∙ ap (λ l. l ++ present (slots rs (suc pid) (length es))) (present_made syms counts (function_at fs pid))
       ∙ ap (λ l. routines_at (entry_of syms counts) (sites_of syms counts) (function_at fs pid) ++ l) (routines_are (suc pid) es)
 
-  rows_are : (pid : ℕ) (es : Table) → kept_rows (slots rs pid (length es)) (objects_from pid es) (shapes_from pid es) ≡ rows_from fs pid es
-  rows_are pid [] = refl
-  rows_are pid (e ∷ es) =
-      let row : ShapeRow = record { pid = pid; name = e.0; shape = shape_of e.1.entity } in
-      let first = first_object pid e.1 es in
-      let rest = kept_rows (slots rs (suc pid) (length es)) in
-      let some : is_some (routine_at rs pid) ≡ is_some (function_at fs pid) = ap is_some (found_made syms counts fs pid)
-      ∙ made_some syms counts (function_at fs pid) in
-      ap (λ b. row_if (b || has_object (objects_at pid e.1 ++ objects_from (suc pid) es) pid) row ++ rest
-      (other_objects (objects_at pid e.1 ++ objects_from (suc pid) es) pid) (shapes_from (suc pid) es)) some
-      ∙ ap (λ b. row_if (is_some (function_at fs pid) || b) row ++ rest (other_objects (objects_at pid e.1 ++ objects_from (suc pid) es) pid)
-      (shapes_from (suc pid) es)) first.0
-      ∙ ap (λ os. row_if (is_some (function_at fs pid) || is_object e.1) row ++ rest os (shapes_from (suc pid) es)) first.1
-      ∙ ap (λ l. row_if (is_some (function_at fs pid) || is_object e.1) row ++ l) (rows_are (suc pid) es)
+-- ## What is found
 
-  pub assembled_is : assembled rs syms ≡ lowered_program (entry_of syms counts) (sites_of syms counts) fs syms
-  assembled_is =
-      ap (λ l. record { shapes = l; objects = objects syms; routines = present (slots rs 0 (length syms)) }) (rows_are 0 syms)
-      ∙ ap (λ l. record { shapes = rows_from fs 0 syms; objects = objects syms; routines = l }) (routines_are 0 syms)
+-- the slot of another PID is passed
+passed : (rs : List RoutineParts) (xs : List (Option RoutineParts)) (pid q : ℕ) (o : Option RoutineParts) → routine_at rs pid ≡ o → (pid ≡ q → ⊥)
+    → routine_at (present (o ∷ xs)) q ≡ routine_at (present xs) q
+passed rs xs pid q None at ne = refl
+passed rs xs pid q (Some r) at ne =
+    found_there (λ (x : RoutineParts). x.pid) q r (present xs) (λ e. ne (sym (found_number (λ (x : RoutineParts). x.pid) pid rs r at) ∙ e))
 
--- there is a row for each name
-pub shapes_length : (pid : ℕ) (es : Table) → length (shapes_from pid es) ≡ length es
-shapes_length pid [] = refl
-shapes_length pid (e ∷ es) = ap suc (shapes_length (suc pid) es)
+-- a routine of another PID isn't among the slots
+not_in_slots : (rs : List RoutineParts) (q pid n : ℕ) → (pid ≤ q → q < pid + n → ⊥) → routine_at (present (slots rs pid n)) q ≡ None
+not_in_slots rs q pid zero out = refl
+not_in_slots rs q pid (suc n) out =
+    passed rs (slots rs (suc pid) n) pid q (routine_at rs pid) refl (λ e. out (omega (arith, e)) (omega (arith, e)))
+    ∙ not_in_slots rs q (suc pid) n (λ low high. out (omega (arith, low)) (omega (arith, high)))
 
--- the rows, and the program, of a table of routines by PID
-module _ (rs : List RoutineParts) (syms : Table) (n : ℕ) (many : n ≡ length syms) (xs : List (Option RoutineParts)) (filled : xs ≡ slots rs 0 n) where
-  of_names : xs ≡ slots rs 0 (length syms)
-  of_names = filled ∙ ap (λ k. slots rs 0 k) many
+-- what is found of a PID whose slot comes first, where the others haven't got it
+at_first : (rs : List RoutineParts) (xs : List (Option RoutineParts)) (pid : ℕ) (o : Option RoutineParts) → routine_at rs pid ≡ o
+    → routine_at (present xs) pid ≡ None → routine_at (present (o ∷ xs)) pid ≡ o
+at_first rs xs pid None at others = others
+at_first rs xs pid (Some r) at others =
+    found_here (λ (x : RoutineParts). x.pid) pid r (present xs) (found_number (λ (x : RoutineParts). x.pid) pid rs r at)
 
-  pub rows_kept : (slice : List (Option RoutineParts)) (os : List ObjectParts) (rows kept : List ShapeRow) → slice ≡ xs → os ≡ objects syms
-      → rows ≡ shapes syms → kept ≡ kept_rows slice os rows → kept ≡ rows_of rs syms
-  rows_kept slice os rows kept same is_objects is_rows is =
-      is
-      ∙ ap (λ l. kept_rows l os rows) (same ∙ of_names)
-      ∙ ap (λ l. kept_rows (slots rs 0 (length syms)) l rows) is_objects
-      ∙ ap (λ l. kept_rows (slots rs 0 (length syms)) (objects syms) l) is_rows
+in_slots : (rs : List RoutineParts) (q pid n : ℕ) → pid ≤ q → q < pid + n → routine_at (present (slots rs pid n)) q ≡ routine_at rs q
+in_slots rs q pid zero low high = absurd (omega (arith, low, high))
+in_slots rs q pid (suc n) low high =
+    elim (eq-or-lt_of_le low) [
+      | inl e ↦ subst (λ p. routine_at (present (slots rs pid (suc n))) p ≡ routine_at rs p) e
+          (at_first rs (slots rs (suc pid) n) pid (routine_at rs pid) refl (not_in_slots rs pid (suc pid) n (λ l h. omega (arith, l))))
+      | inr less ↦
+          passed rs (slots rs (suc pid) n) pid q (routine_at rs pid) refl (λ e. omega (arith, e, less))
+          ∙ in_slots rs q (suc pid) n (omega (arith, less)) (omega (arith, high))
+    ]
 
-  pub put_together : (rows : List ShapeRow) (os : List ObjectParts) (routines : List RoutineParts) → rows ≡ rows_of rs syms → os ≡ objects syms
-      → routines ≡ present xs
-      → record { shapes = rows; objects = os; routines = routines } ≡ assembled rs syms
-  put_together rows os routines is_rows is_objects are =
-      ap (λ l. record { shapes = l; objects = os; routines = routines }) is_rows
-      ∙ ap (λ l. record { shapes = rows_of rs syms; objects = l; routines = routines }) is_objects
-      ∙ ap (λ l. record { shapes = rows_of rs syms; objects = objects syms; routines = l }) (are ∙ ap present of_names)
+none_above : (n : ℕ) (rs : List RoutineParts) (q : ℕ) → n ≤ q → AllByRecursion (λ (r : RoutineParts). r.pid < n) rs → routine_at rs q ≡ None
+none_above n [] q high live = refl
+none_above n (r ∷ rs) q high live =
+    let less = live.0 in
+    found_there (λ (x : RoutineParts). x.pid) q r rs (λ e. omega (arith, e, less, high)) ∙ none_above n rs q high live.1
+
+-- by each PID the same routine is found
+pub finds_all : (rs : List RoutineParts) (n : ℕ) → AllByRecursion (λ (r : RoutineParts). r.pid < n) rs → (q : ℕ)
+    → routine_at (by_pid rs n) q ≡ routine_at rs q
+finds_all rs n live q =
+    elim (cases_lt q n) [
+      | inl less ↦ in_slots rs q 0 n (omega arith) (omega (arith, less))
+      | inr high ↦ not_in_slots rs q 0 n (λ l h. omega (arith, high, h)) ∙ sym (none_above n rs q high live)
+    ]

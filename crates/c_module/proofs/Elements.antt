@@ -41,3 +41,9 @@ around xs k x less at =
 pub made_around : {X Y : Type 0} (f : X → Y) (xs : List X) (k : ℕ) (x : X) → k < length xs → x ≡ get_or xs k x
     → map f xs ≡ map f (take k xs) ++ f x ∷ map f (drop (k + 1) xs)
 made_around f xs k x less at = ap (map f) (around xs k x less at) ∙ map-append f (take k xs) (x ∷ drop (k + 1) xs)
+
+-- what f makes of the first elements with one more
+pub made_more : {X Y : Type 0} (f : X → Y) (xs : List X) (k : ℕ) (x : X) → k < length xs → x ≡ get_or xs k x
+    → map f (take (k + 1) xs) ≡ map f (take k xs) ++ f x ∷ []
+made_more f xs k x less at =
+    ap (map f) (take_more xs k x less ∙ ap (λ y. take k xs ++ y ∷ []) (sym at)) ∙ map-append f (take k xs) (x ∷ [])

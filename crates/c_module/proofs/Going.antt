@@ -196,7 +196,7 @@ module _ (tells : List ℕ → Told) (before after : List ℕ → ℕ) (files : 
       same_names 1 [] told.modules ts told.ts syms names (subst (λ l. AreTypedAs 1 [] l ts syms) same hold.formed.typed) told.formed.typed
 
   -- where told files are well formed and link, and no count rose, want of memory alone ends it
-  only_want : (fault : ProgramFault) (known : Table) → IsProgramCause fault files tells before after known → (names : Table)
+  pub only_want : (fault : ProgramFault) (known : Table) → IsProgramCause fault files tells before after known → (names : Table)
       → AreWellFormedTexts tells files names → refusal names ≡ None → AreQuiet before after files → IsWant fault
   only_want (program.File file (NoModule fault)) known ends names told links quiet = absurd (no_fault names told file.now fault known ends)
   only_want (program.File file CannotRead) known ends names told links quiet =
@@ -209,7 +209,7 @@ module _ (tells : List ℕ → Told) (before after : List ℕ → ℕ) (files : 
   only_want program.Memory known cause names told links quiet = tt
 
   -- where no count rose, no file couldn't be read
-  none_unread : (fault : ProgramFault) (known : Table) → IsProgramCause fault files tells before after known → AreQuiet before after files
+  pub none_unread : (fault : ProgramFault) (known : Table) → IsProgramCause fault files tells before after known → AreQuiet before after files
       → IsUnread fault → ⊥
   none_unread (program.File file (NoModule fault)) known ends quiet unread = unread
   none_unread (program.File file CannotRead) known ends quiet unread =
@@ -257,7 +257,7 @@ module _ (tells : List ℕ → Told) (before after : List ℕ → ℕ) (files : 
       unlinked.apart (ap refusal (sym same) ∙ passes.accepted.links)
 
   -- the same of an answer
-  pub refuses : {T : Type 0} {P : T → Type 0} (answer : Result T ProgramFault) (syms : Table) → ((x : T) → P x → Passes tells files syms)
+  pub refuses : {T E : Type 0} {P : T → Type 0} (answer : Result T E) (syms : Table) → ((x : T) → P x → Passes tells files syms)
       → IfOk answer P → AreRefused tells files → IsErr answer
   refuses (Ok x) syms passes ok refused = absurd (none_refused syms (passes x ok) refused)
   refuses (Err fault) syms passes ok refused = refl

@@ -1,8 +1,11 @@
 pub mod Assembled
 pub mod Elements
+pub mod Framed
 pub mod Going
 pub mod Lowered
 pub mod Modules
 pub mod Names
 pub mod Ready
+pub mod Rooms
+pub mod Taken
 pub mod Uncounted

@@ -1,9 +1,11 @@
 pub mod Appending
 pub mod Assembling
 pub mod Files
+pub mod Frames
 pub mod Limits
 pub mod ModuleFaults
 pub mod Programs
+pub mod Taking
 pub mod Texts
 pub mod Told
 pub mod Verdict

@@ -50,3 +50,21 @@ pub enum ProgramFault<'a> {
     /// Memory ran out behind the last file.
     Memory,
 }
+
+/// Why going over files in order, with a taker of their routines, ended early.
+#[derive(Clone, Copy)]
+pub enum TakeFault<'a> {
+    /// The files give no program.
+    Program(ProgramFault<'a>),
+    /// The taker refused the routine of a function.
+    Refused,
+}
+
+/// Why the routines of a file weren't all taken.
+#[derive(Clone, Copy, Drop)]
+pub(crate) enum Stop {
+    /// The file gives no routines.
+    File(FileFault),
+    /// The taker refused one.
+    Refused,
+}

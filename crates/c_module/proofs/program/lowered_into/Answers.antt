@@ -1,0 +1,22 @@
+use Rattle.profile.specs.Counts.{counts_of}
+use Rattle.c_module.proofs.Going.{refuses}
+use Rattle.c_module.proofs.Taken.{reads_all, wants_or_refuses}
+use Rattle.c_module.proofs.program.lowered_into.Goals as goal
+
+pub returns-clause-complete : goal.returns-clause-complete
+returns-clause-complete g c = λ names told links quiet.
+    wants_or_refuses g.R.RoutineTaker.taken g.R.RoutineTaker.keeps g.R.RoutineTaker.refuses (counts_of c.args.p.now)
+    (g.S.Shelf.tells c.args.shelf.now) (g.S.Shelf.faults c.args.shelf.now) (g.S.Shelf.faults c.into_in_order.new.shelf) c.args.files.now
+    c.args.taker.now c.into_in_order.new.taker c.into_in_order.new.syms c.into_in_order.result c.into_in_order.ensures.err names told links quiet
+
+pub returns-clause-refuses : goal.returns-clause-refuses
+returns-clause-refuses g c = λ refused.
+    refuses (g.S.Shelf.tells c.args.shelf.now) (g.S.Shelf.faults c.args.shelf.now) (g.S.Shelf.faults c.into_in_order.new.shelf) c.args.files.now
+    c.into_in_order.result c.into_in_order.new.syms
+    (λ x is. record { modules = is.modules; ts = is.ts; accepted = is.accepted }) c.into_in_order.ensures.ok refused
+
+pub returns-clause-reads : goal.returns-clause-reads
+returns-clause-reads g c = λ quiet.
+    reads_all g.R.RoutineTaker.taken g.R.RoutineTaker.keeps g.R.RoutineTaker.refuses (counts_of c.args.p.now)
+    (g.S.Shelf.tells c.args.shelf.now) (g.S.Shelf.faults c.args.shelf.now) (g.S.Shelf.faults c.into_in_order.new.shelf) c.args.files.now
+    c.args.taker.now c.into_in_order.new.taker c.into_in_order.new.syms c.into_in_order.result c.into_in_order.ensures.err quiet
