@@ -127,6 +127,13 @@ impl<T: Poolable + Drop, B: Drop, D: Disk + Drop> Loader<T, B, D> {
         self.counters
     }
 
+    /// The limit in bytes that the loader was made with. Constant time.
+    pub fn limit(&self) -> u64
+        ensures { result ≡ self.now.core.limit }
+    {
+        self.limit
+    }
+
     /// How many pools there are. Constant time.
     pub fn used(&self) -> u32
         ensures { result ≡ length self.now.core.pools }

@@ -1,0 +1,9 @@
+pub mod Events
+pub mod Frames
+pub mod Giving
+pub mod Hands
+pub mod Placing
+pub mod Pools
+pub mod Refusals
+pub mod Rounds
+pub mod Taking
