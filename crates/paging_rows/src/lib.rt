@@ -7,6 +7,8 @@ mod compact;
 #[cfg(test)]
 mod events;
 #[cfg(test)]
+mod loads;
+#[cfg(test)]
 mod numbers;
 #[cfg(test)]
 mod objects;
