@@ -13,4 +13,6 @@ mod numbers;
 #[cfg(test)]
 mod objects;
 #[cfg(test)]
+mod owns;
+#[cfg(test)]
 mod records;
