@@ -52,14 +52,14 @@ pub room_for : TypedModulesFit → (counts : Counts) (rs : List RoutineParts) (n
 room_for fit counts rs number old told t new held taken =
     has_room counts rs old new (functions_in t) taken (whole_behind fit number old told t new held (taken.before ++ taken.lowered) taken.whole)
 
-module _ {T : Type 0} (taken : T → List RoutineParts) (keeps : T → T → Type 0) (refuses : T → T → RoutineParts → Type 0) where
+module _ {T : Type 0} (taken : T → List RoutineParts) (ready : T → Type 0) (keeps : T → T → Type 0) (refuses : T → T → RoutineParts → Type 0) where
   -- a file of the list, of whose functions the routine of one was refused
   pub refused_here : TypedModulesFit → TypedProgramsAreWhole → (counts : Counts) (tells : List ℕ → Told) (files : List (List ℕ)) (k : ℕ) (name : List ℕ)
       → k < length files → name ≡ get_or files k name
       → (syms new : Table) (number : ℕ) (told : Told) (first before after : T) → Lowered counts tells (take k files) (taken before) syms
       → number ≡ suc k → told ≡ tells name → keeps first before
-      → RefusesInFile taken keeps refuses number syms counts told before after new
-      → RefusesAmong taken keeps refuses counts tells files first after new
+      → RefusesInFile taken ready keeps refuses number syms counts told before after new
+      → RefusesAmong taken ready keeps refuses counts tells files first after new
   refused_here fit law counts tells files k name less is syms new number told first before after lowered is_number same kept refused =
       let next : number ≡ suc (length (take k files)) = is_number ∙ ap suc (sym (length-take-le k files (omega (arith, less)))) in
       record {
@@ -74,20 +74,20 @@ module _ {T : Type 0} (taken : T → List RoutineParts) (keeps : T → T → Typ
         behind = before;
         up_to = routines_before fit law counts tells (take k files) (taken before) syms lowered number told refused.typed_as new refused.typed;
         same = kept;
-        refused = subst (λ i. RefusesInFile taken keeps refuses i syms counts (tells name) before after new) next
-            (subst (λ d. RefusesInFile taken keeps refuses number syms counts d before after new) same refused);
+        refused = subst (λ i. RefusesInFile taken ready keeps refuses i syms counts (tells name) before after new) next
+            (subst (λ d. RefusesInFile taken ready keeps refuses number syms counts d before after new) same refused);
       }
 
   module _ (counts : Counts) (tells : List ℕ → Told) (before after : List ℕ → ℕ) (files : List (List ℕ)) (x y : T) (known : Table) where
     pub wants_or_refuses : {A : Type 0} (answer : Result A TakeFault)
-        → IfErr answer (λ fault. IsTakeCause taken keeps refuses fault counts files tells before after x y known) → (names : Table)
+        → IfErr answer (λ fault. IsTakeCause taken ready keeps refuses fault counts files tells before after x y known) → (names : Table)
         → AreWellFormedTexts tells files names → refusal names ≡ None → AreQuiet before after files → IfErr answer IsWantOrRefusal
     wants_or_refuses (Ok a) cause names told links quiet = tt
     wants_or_refuses (Err (take_fault.Program fault)) cause names told links quiet = only_want tells before after files fault known cause names told links quiet
     wants_or_refuses (Err take_fault.Refused) cause names told links quiet = tt
 
     pub reads_all : {A : Type 0} (answer : Result A TakeFault)
-        → IfErr answer (λ fault. IsTakeCause taken keeps refuses fault counts files tells before after x y known) → AreQuiet before after files
+        → IfErr answer (λ fault. IsTakeCause taken ready keeps refuses fault counts files tells before after x y known) → AreQuiet before after files
         → IfErr answer (λ fault. IsUnreadFile fault → ⊥)
     reads_all (Ok a) cause quiet = tt
     reads_all (Err (take_fault.Program fault)) cause quiet = none_unread tells before after files fault known cause quiet

@@ -1,5 +1,5 @@
--- Routines that a taker takes one after another, and where it refuses one. A taker is seen by its three words: what it has
--- taken, what it keeps between two moments, and what a refusal says.
+-- Routines that a taker takes one after another, and where it refuses one. A taker is seen by its four words: what it has
+-- taken, when it can take one more, what it keeps between two moments, and what a refusal says.
 use Rattle.std.specs.Prelude.{◌≡◌, ℕ, suc, ◌+◌, ◌≤◌, ◌++◌, List, ◌∷◌, None, length, map, ⊤}
 use Rattle.std.specs.List.{AllByRecursion}
 use Rattle.il_core.specs.Limits.{max_routines}
@@ -37,9 +37,9 @@ pub record HasRoom (rs : List RoutineParts) (fs : List Function) : Type 0 where
   pub own : HaveOwnPids fs
   pub few : length rs + length fs ≤ max_routines
 
-module _ {T : Type 0} (taken : T → List RoutineParts) (keeps : T → T → Type 0) (refuses : T → T → RoutineParts → Type 0) where
+module _ {T : Type 0} (taken : T → List RoutineParts) (ready : T → Type 0) (keeps : T → T → Type 0) (refuses : T → T → RoutineParts → Type 0) where
   -- Of these functions the routine of one was refused. Those before it keep the limits of the language, and their routines
-  -- were taken; it keeps them too.
+  -- were taken; it keeps them too, and the taker was ready for it.
   pub record RefusesOne (syms : Table) (counts : Counts) (fs : List Function) (old new : T) : Type 0 where
     pub earlier : List Function
     pub function : Function
@@ -50,6 +50,7 @@ module _ {T : Type 0} (taken : T → List RoutineParts) (keeps : T → T → Typ
     pub at : T
     pub up_to : taken at ≡ taken old ++ map (routine_of syms counts) earlier
     pub same : keeps old at
+    pub is_ready : ready at
     pub refused : refuses at new (routine_of syms counts function)
 
   -- the same of the functions of the file with this number, which is the text of a module that is typed so behind the old

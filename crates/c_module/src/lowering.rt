@@ -41,10 +41,12 @@ fn take_routines<R: RoutineTaker>(
     taker: &mut R,
 ) -> Result<(), Stop>
     requires ready { AllByRecursion (IsReady syms.now) (map function_of functions.now) }
+    requires takes { R.ready taker.old }
     requires room { HasRoom (R.taken taker.old) (map function_of functions.now) }
     ensures limits { OnOk result (AllByRecursion KeepsLimits (map function_of functions.now)) }
     ensures ok { OnOk result (R.taken taker.new ≡ R.taken taker.old ++ map (routine_of syms.now (counts_of p.now)) (map function_of functions.now)) }
-    ensures err { IfErr result (λ stop. EndsTaking R.taken R.keeps R.refuses syms.now (counts_of p.now) (map function_of functions.now) taker.old taker.new stop) }
+    ensures still { OnOk result (R.ready taker.new) }
+    ensures err { IfErr result (λ stop. EndsTaking R.taken R.ready R.keeps R.refuses syms.now (counts_of p.now) (map function_of functions.now) taker.old taker.new stop) }
     ensures kept { R.keeps taker.old taker.new }
 {
     counts_are_no_limits();
@@ -76,8 +78,10 @@ pub(crate) fn take_module<S: Shelf, R: RoutineTaker>(
     taker: &mut R,
 ) -> Result<(), Stop>
     requires taken { AreTaken (counts_of p.now) (R.taken taker.old) syms.old }
+    requires takes { R.ready taker.old }
     ensures ok { OnOk result (AddsLowered number syms.old (counts_of p.now) (S.tells shelf.old file.now) (R.taken taker.old) (R.taken taker.new) syms.new) }
-    ensures err { IfErr result (λ stop. IsStop R.taken R.keeps R.refuses number syms.old (counts_of p.now) stop (S.tells shelf.old file.now) (S.faults shelf.old file.now) (S.faults shelf.new file.now) taker.old taker.new syms.new) }
+    ensures still { OnOk result (R.ready taker.new) }
+    ensures err { IfErr result (λ stop. IsStop R.taken R.ready R.keeps R.refuses number syms.old (counts_of p.now) stop (S.tells shelf.old file.now) (S.faults shelf.old file.now) (S.faults shelf.new file.now) taker.old taker.new syms.new) }
     ensures names { OnOk result (AreNames syms.new) }
     ensures kept { R.keeps taker.old taker.new }
     ensures same { SameFiles (S.tells shelf.old) (S.tells shelf.new) }

@@ -1,5 +1,5 @@
 //! The routines of the program of files, one after another, and the lowered program.
-ghost use Rattle.std.specs.Prelude.{◌≡◌, [], None, IfOk, IfErr, IsErr};
+ghost use Rattle.std.specs.Prelude.{◌≡◌, [], None, IfOk, IfErr, IsErr, OnOk};
 ghost use Rattle.linker.specs.Linking.{refusal};
 ghost use Rattle.outside.specs.Faults.{NoneFalls};
 ghost use Rattle.outside.specs.Told.{SameFiles};
@@ -42,8 +42,10 @@ pub fn lowered_into<'a, S: Shelf, R: RoutineTaker>(
 ) -> Result<(), TakeFault<'a>>
     requires names { syms.old ≡ [] }
     requires none { R.taken taker.old ≡ [] }
+    requires ready { R.ready taker.old }
     ensures ok { IfOk result (λ _. AreRoutinesOf (counts_of p.now) (S.tells shelf.old) files.now (R.taken taker.new) syms.new) }
-    ensures err { IfErr result (λ fault. IsTakeCause R.taken R.keeps R.refuses fault (counts_of p.now) files.now (S.tells shelf.old) (S.faults shelf.old) (S.faults shelf.new) taker.old taker.new syms.new) }
+    ensures still { OnOk result (R.ready taker.new) }
+    ensures err { IfErr result (λ fault. IsTakeCause R.taken R.ready R.keeps R.refuses fault (counts_of p.now) files.now (S.tells shelf.old) (S.faults shelf.old) (S.faults shelf.new) taker.old taker.new syms.new) }
     ensures kept { R.keeps taker.old taker.new }
     // Where the shelf tells the files and no count rose, want of memory and a refusal alone keep from the answer that the
     // files ask for.
@@ -69,8 +71,10 @@ fn into_in_order<'a, S: Shelf, R: RoutineTaker>(
 ) -> Result<(), TakeFault<'a>>
     requires names { syms.old ≡ [] }
     requires none { R.taken taker.old ≡ [] }
+    requires ready { R.ready taker.old }
     ensures ok { IfOk result (λ _. AreRoutinesOf (counts_of p.now) (S.tells shelf.old) files.now (R.taken taker.new) syms.new) }
-    ensures err { IfErr result (λ fault. IsTakeCause R.taken R.keeps R.refuses fault (counts_of p.now) files.now (S.tells shelf.old) (S.faults shelf.old) (S.faults shelf.new) taker.old taker.new syms.new) }
+    ensures still { OnOk result (R.ready taker.new) }
+    ensures err { IfErr result (λ fault. IsTakeCause R.taken R.ready R.keeps R.refuses fault (counts_of p.now) files.now (S.tells shelf.old) (S.faults shelf.old) (S.faults shelf.new) taker.old taker.new syms.new) }
     ensures kept { R.keeps taker.old taker.new }
     ensures same { SameFiles (S.tells shelf.old) (S.tells shelf.new) }
     ensures counts { NoneFalls (S.faults shelf.old) (S.faults shelf.new) }

@@ -16,17 +16,21 @@ pub trait RoutineTaker {
 
     /// The routines taken so far, in order.
     ghost taken: { Self → List RoutineParts };
+    /// It can take one more.
+    ghost ready: { Self → Type 0 };
     /// What holds between an earlier moment and a later one, whatever was taken or refused in between.
     ghost keeps: { Self → Self → Type 0 };
     /// What a refusal says: how the taker was before, how it is now, and the routine.
     ghost refuses: { Self → Self → RoutineParts → Type 0 };
 
-    /// Takes one more, behind the others. No routine taken before has its PID, and they are fewer than a program may
+    /// Takes one more, behind the others, and is ready for another then. No routine taken before has its PID, and they are fewer than a program may
     /// have.
     fn take(&mut self, routine: Routine) -> Result<(), Refused>
+        requires ready { ready self.old }
         requires apart { routine_at (taken self.old) routine.pid ≡ None }
         requires few { length (taken self.old) < max_routines }
         ensures ok { OnOk result (taken self.new ≡ taken self.old ++ routine ∷ []) }
+        ensures still { OnOk result (ready self.new) }
         ensures err { OnErr result (refuses self.old self.new routine) }
         ensures kept { keeps self.old self.new };
 
@@ -41,6 +45,8 @@ impl RoutineTaker for Vec<Routine> {
     ghost use Rattle.std.specs.Prelude.{⊤};
 
     ghost taken = { λ v. v.items };
+
+    ghost ready = { λ v. ⊤ };
 
     ghost keeps = { λ a b. ⊤ };
 

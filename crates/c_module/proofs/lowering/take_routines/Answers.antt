@@ -14,7 +14,7 @@ use Rattle.c_module.proofs.Rooms.{limits_more, next_room, room_more, taken_more}
 use Rattle.c_module.proofs.lowering.take_routines.Goals as goal
 
 pub loop-f-init : goal.loop-f-init
-loop-f-init g c = (sym (append-nil _), tt, c.requires.room, g.met.R.RoutineTaker.stays c.args.taker.now)
+loop-f-init g c = (sym (append-nil _), tt, c.requires.room, g.met.R.RoutineTaker.stays c.args.taker.now, c.requires.takes)
 
 pub lower-requires-clause-live : goal.lower-requires-clause-live
 lower-requires-clause-live g c =
@@ -59,6 +59,7 @@ returns-in_default-clause-err g c =
       at = c.loop-f.taker;
       up_to = c.loop-f.invariant.0;
       same = c.loop-f.invariant.3;
+      is_ready = c.loop-f.invariant.4;
       refused = subst (g.R.RoutineTaker.refuses c.loop-f.taker c.take.new.self) c.in-Ok.ensures.routine c.in_default.ensures.err;
     }
 
@@ -84,6 +85,7 @@ loop-f-preserved g c =
           (room_more (g.R.RoutineTaker.taken c.loop-f.taker) c.in-Ok.routine (function_of f)
           (map function_of (drop (c.loop-f.f-index + 1) c.args.functions.now)) same room),
       g.met.R.RoutineTaker.goes_on c.args.taker.now c.loop-f.taker c.take.new.self known.3 c.in-Ok-take.ensures.kept,
+      c.in-Ok-take.ensures.still,
     )
 
 pub returns-in-Err-TooLarge-clause-err : goal.returns-in-Err-TooLarge-clause-err

@@ -14,3 +14,4 @@ invariant-loop-f g l =
     × AllByRecursion KeepsLimits before
     × HasRoom (g.R.RoutineTaker.taken l.taker) (map function_of (drop l.f-index l.functions))
     × g.R.RoutineTaker.keeps l.fn.taker l.taker
+    × g.R.RoutineTaker.ready l.taker

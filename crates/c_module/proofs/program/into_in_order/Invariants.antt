@@ -12,4 +12,5 @@ invariant-loop-file g l = record {
   counts : NoneFalls (g.S.Shelf.faults l.fn.shelf) (g.S.Shelf.faults l.shelf);
   number : l.number ≡ l.file-index;
   kept : g.R.RoutineTaker.keeps l.fn.taker l.taker;
+  ready : g.R.RoutineTaker.ready l.taker;
 }

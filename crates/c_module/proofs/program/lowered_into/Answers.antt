@@ -5,7 +5,7 @@ use Rattle.c_module.proofs.program.lowered_into.Goals as goal
 
 pub returns-clause-complete : goal.returns-clause-complete
 returns-clause-complete g c = λ names told links quiet.
-    wants_or_refuses g.R.RoutineTaker.taken g.R.RoutineTaker.keeps g.R.RoutineTaker.refuses (counts_of c.args.p.now)
+    wants_or_refuses g.R.RoutineTaker.taken g.R.RoutineTaker.ready g.R.RoutineTaker.keeps g.R.RoutineTaker.refuses (counts_of c.args.p.now)
     (g.S.Shelf.tells c.args.shelf.now) (g.S.Shelf.faults c.args.shelf.now) (g.S.Shelf.faults c.into_in_order.new.shelf) c.args.files.now
     c.args.taker.now c.into_in_order.new.taker c.into_in_order.new.syms c.into_in_order.result c.into_in_order.ensures.err names told links quiet
 
@@ -17,6 +17,6 @@ returns-clause-refuses g c = λ refused.
 
 pub returns-clause-reads : goal.returns-clause-reads
 returns-clause-reads g c = λ quiet.
-    reads_all g.R.RoutineTaker.taken g.R.RoutineTaker.keeps g.R.RoutineTaker.refuses (counts_of c.args.p.now)
+    reads_all g.R.RoutineTaker.taken g.R.RoutineTaker.ready g.R.RoutineTaker.keeps g.R.RoutineTaker.refuses (counts_of c.args.p.now)
     (g.S.Shelf.tells c.args.shelf.now) (g.S.Shelf.faults c.args.shelf.now) (g.S.Shelf.faults c.into_in_order.new.shelf) c.args.files.now
     c.args.taker.now c.into_in_order.new.taker c.into_in_order.new.syms c.into_in_order.result c.into_in_order.ensures.err quiet
