@@ -1,0 +1,4 @@
+pub mod Frames
+pub mod Fronts
+pub mod Programs
+pub mod Rows
