@@ -11,5 +11,5 @@ mod Objects
 mod Samples
 mod Statements
 mod States
-mod Tables
+pub mod Tables
 mod Typings

@@ -58,7 +58,7 @@ inner_within_if : (n : ℕ) (d : Declared Binding) (ds : List (Declared Binding)
 inner_within_if n d ds true e more = let same = eqb-true d.depth n e in (omega (arith, same), more)
 inner_within_if n d ds false e more = tt
 
-inner_within : (n : ℕ) (ds : List (Declared Binding)) → AreWithin n (inner n ds)
+pub inner_within : (n : ℕ) (ds : List (Declared Binding)) → AreWithin n (inner n ds)
 inner_within n [] = tt
 inner_within n (d ∷ ds) = inner_within_if n d (inner n ds) (d.depth == n) refl (inner_within n ds)
 
@@ -67,7 +67,7 @@ outer_inner_if : (n : ℕ) (d : Declared Binding) (ds es : List (Declared Bindin
 outer_inner_if n d ds es true e more = outer_more n d (ds ++ es) (eqb-true d.depth n e) ∙ more
 outer_inner_if n d ds es false e more = refl
 
-outer_inner : (n : ℕ) (ds es : List (Declared Binding)) → outer n (inner n ds ++ es) ≡ outer n es
+pub outer_inner : (n : ℕ) (ds es : List (Declared Binding)) → outer n (inner n ds ++ es) ≡ outer n es
 outer_inner n [] es = refl
 outer_inner n (d ∷ ds) es = outer_inner_if n d (inner n ds) es (d.depth == n) refl (outer_inner n ds es)
 
@@ -75,7 +75,7 @@ named_append : (s : Scope) (xs ys : List (Declared Binding)) → AreNamed s xs �
 named_append s [] ys p q = q
 named_append s (x ∷ xs) ys p q = (p.0, named_append s xs ys p.1 q)
 
-within_append : (n : ℕ) (xs ys : List (Declared Binding)) → AreWithin n xs → AreWithin n ys → AreWithin n (xs ++ ys)
+pub within_append : (n : ℕ) (xs ys : List (Declared Binding)) → AreWithin n xs → AreWithin n ys → AreWithin n (xs ++ ys)
 within_append n [] ys p q = q
 within_append n (x ∷ xs) ys p q = (p.0, within_append n xs ys p.1 q)
 

@@ -1,8 +1,8 @@
 mod Expressions
 mod FileScope
 pub mod Functions
-mod Going
-mod Keeping
+pub mod Going
+pub mod Keeping
 pub mod Modules
 mod Statements
 mod Typings

@@ -1,0 +1,11 @@
+mod Conversions
+mod Expressions
+mod FileScope
+mod Functions
+mod Growing
+mod Judging
+mod Laying
+pub mod Modules
+mod Names
+mod Statements
+mod Typings
