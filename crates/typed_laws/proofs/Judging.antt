@@ -34,7 +34,8 @@ module _ (f : Final) where
   step_then h g k x y = record { before = λ b. x.before (y.before b); depth = y.depth ∙ x.depth; seen = λ l s. y.seen l (x.seen l s) }
 
   -- what keeps locals and labels, and lets the table grow
-  pub step_beside : (h g : Here) → g.names.depth ≡ h.names.depth → g.locals ≡ h.locals → Grows h.syms g.syms → g.cases ≡ h.cases → g.default ≡ h.default → Step h g
+  pub step_beside : (h g : Here) → g.names.depth ≡ h.names.depth → g.locals ≡ h.locals → Grows h.syms g.syms → g.cases ≡ h.cases
+      → g.default ≡ h.default → Step h g
   step_beside h g depth locals table cases default = record {
     before = λ b. (subst (λ l. IsFront f.inner l) locals b.0, grows_then h.syms g.syms f.table table b.1);
     depth = depth;
@@ -139,7 +140,12 @@ module _ (f : Final) where
       choice h (Some d) is = (step_none h, λ before given sound. (stays_same f h h refl sound, is sound.named))
 
   pub binds : {G : Type 0} (name : List ℕ) (b : Binding) → (G → IsNamed f b) → DoesIf G Any (change (bind name b))
-  binds name b good = record { by = λ h. (record { before = λ x. x; depth = refl; seen = λ l s. s }, λ before given sound. (stays_bound f name b h (good given) sound, tt)) }
+  binds name b good = record {
+    by = λ h. (
+      record { before = λ x. x; depth = refl; seen = λ l s. s },
+      λ before given sound. (stays_bound f name b h (good given) sound, tt),
+    );
+  }
 
   pub uses_pid : (pid : ℕ) → Does Any (use_pid pid)
   uses_pid pid = record {

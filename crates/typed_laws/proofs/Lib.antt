@@ -7,5 +7,6 @@ mod Judging
 mod Laying
 pub mod Modules
 mod Names
+mod Samples
 mod Statements
 mod Typings

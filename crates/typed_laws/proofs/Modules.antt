@@ -1,7 +1,14 @@
 -- Modules: each function that the typing rules give is well typed.
-use Rattle.std.proofs.Common.{◌≡◌, ℕ, suc, List, [], ◌∷◌, ◌++◌, map, Option, None, Bool, true, false, refl, sym, ap, ◌∙◌, subst}
+use Rattle.std.proofs.Common.{◌≡◌, ℕ, suc, List, [], ◌∷◌, ◌++◌, ◌<◌, map, Option, Some, None, Bool, true, false, refl, sym, ap, ◌∙◌, subst, arith}
 use Rattle.std.specs.Prelude.{if◌then◌else◌, is_none, codes, ⊤}
 use Rattle.std.specs.List.{AllByRecursion}
+use Rattle.std.proofs.lemmas.Bool.{true≢false}
+use Rattle.sym_tables.specs.declared.entity.Entity.{Entity}
+use Rattle.sym_tables.specs.declared.entity.Entity.TheVariants as entities
+use Rattle.sym_tables.specs.declared.symbol.Standing.{Standing}
+use Rattle.sym_tables.specs.declared.symbol.Standing.TheVariants as standings
+use Rattle.sym_tables.specs.Entities.{is_function, words}
+use Rattle.sym_tables.specs.Symbols.{is_declared}
 use Rattle.sym_tables.specs.Table.{Table}
 use Rattle.c_tree.specs.declared.token.Header.{Header}
 use Rattle.c_tree.specs.declared.token.Header.TheVariants as headers
@@ -23,7 +30,9 @@ use Rattle.c_types.specs.Typing as rules
 use Rattle.c_types.specs.Typing.{start}
 use Rattle.lower_laws.specs.Bound.{IsBound}
 use Rattle.type_laws.proofs.Modules.{typed_modules_are_bound}
-use Rattle.program_laws.specs.Growing.{Grows}
+use Rattle.program_laws.specs.Growing.{entity_at, standing_at, Grows}
+use Rattle.program_laws.specs.Laws.{TypedProgramsAreWhole}
+use Rattle.program_laws.specs.Settled.{AreWhole}
 use Rattle.program_laws.specs.Typed.{AreTypedAs}
 use Rattle.program_laws.proofs.Tables.{grows_same, grows_then}
 use Rattle.typed_laws.specs.Laws.{TypedModulesAreWellTyped, TypedProgramsAreWellTyped}
@@ -80,7 +89,8 @@ module _ (table : Table) where
   all_items_do number [] = gives (at_file table) [] (λ g. tt)
   all_items_do number (items.Include line header ∷ rest) =
       and (at_file table)
-      (changes (at_file table) (rules.include header) (λ h. (binds_included header h).step) (λ h sound. (binds_included header h).stays sound)) (λ u. plain (at_file table) (all_items_do number rest))
+      (changes (at_file table) (rules.include header) (λ h. (binds_included header h).step) (λ h sound. (binds_included header h).stays sound))
+      (λ u. plain (at_file table) (all_items_do number rest))
   all_items_do number (items.Declaration d ∷ rest) =
       and (at_file table) (file_declaration_does table number d) (λ u. plain (at_file table) (all_items_do number rest))
   all_items_do number (items.Function d ∷ rest) =
@@ -134,16 +144,35 @@ append_none : (xs : List Function) → xs ++ [] ≡ xs
 append_none [] = refl
 append_none (x ∷ xs) = ap (λ l. x ∷ l) (append_none xs)
 
-pub typed_programs_are_well_typed : TypedProgramsAreWellTyped
-typed_programs_are_well_typed number [] [] old new typed = (tt, subst (λ x. Grows old x) (sym typed) (grows_same old))
-typed_programs_are_well_typed number [] (t ∷ ts) old new typed = absurd typed
-typed_programs_are_well_typed number (m ∷ modules) [] old new typed = absurd typed
-typed_programs_are_well_typed number (m ∷ modules) (t ∷ ts) old new typed =
+functions_well : (number : ℕ) (modules : List Module) (ts : List TypedModule) (old new : Table) → AreTypedAs number old modules ts new
+    → AllByRecursion (IsWellTyped new) (functions_of ts) × Grows old new
+functions_well number [] [] old new typed = (tt, subst (λ x. Grows old x) (sym typed) (grows_same old))
+functions_well number [] (t ∷ ts) old new typed = absurd typed
+functions_well number (m ∷ modules) [] old new typed = absurd typed
+functions_well number (m ∷ modules) (t ∷ ts) old new typed =
     let one = typed_modules_are_well_typed number m old t typed.0 typed.1 in
-    let rest = typed_programs_are_well_typed (suc number) modules ts typed.0.syms new typed.2 in (
+    let rest = functions_well (suc number) modules ts typed.0.syms new typed.2 in (
       all_append (IsWellTyped new) (map function_of t.functions) (functions_of ts)
           (subst (λ l. AllByRecursion (IsWellTyped new) l) (append_none (map function_of t.functions))
           (all_stay typed.0.syms new rest.1 (functions_of (t ∷ [])) one.0))
           rest.0,
       grows_then old typed.0.syms new one.1 rest.1,
     )
+
+-- an object has a word at least
+has_words : (fs : List Function) (syms : Table) → AreWhole fs syms → (pid : ℕ) (e : Entity) (s : Standing) → entity_at syms pid ≡ Some e
+    → standing_at syms pid ≡ Some s → is_function e ≡ false → is_declared s ≡ false → 0 < words e
+has_words fs syms whole pid (entities.Function gives params) s is st object given = absurd (true≢false object)
+has_words fs syms whole pid (entities.Scalar ty fixed) s is st object given = omega arith
+has_words fs syms whole pid (entities.Array ty fixed None) s is st object given = absurd (whole.lengths pid ty fixed s is st given)
+has_words fs syms whole pid (entities.Array ty fixed (Some n)) s is st object given = whole.settled.lengths pid ty fixed n is
+
+pub programs_are_well_typed : TypedProgramsAreWhole → TypedProgramsAreWellTyped
+programs_are_well_typed wholes modules ts syms typed =
+    let whole = wholes modules ts syms typed in
+    record {
+      functions = (functions_well 1 modules ts [] syms typed).0;
+      apart = whole.settled.apart;
+      defined = λ pid gives params is st. whole.settled.routines pid gives params standings.Defined is st;
+      objects = has_words (functions_of ts) syms whole;
+    }

@@ -1,4 +1,4 @@
--- The laws of typed trees: where the typing rules give modules, their functions are well typed with the table that they leave.
+-- The laws of typed trees: what the typing rules give is well typed with the table that they leave, and with each later one.
 use Rattle.std.specs.Prelude.{◌≡◌, ℕ, [], ◌∷◌, List}
 use Rattle.std.specs.List.{AllByRecursion}
 use Rattle.sym_tables.specs.Table.{Table}
@@ -10,7 +10,7 @@ use Rattle.c_types.specs.Rules.{Here, Gives}
 use Rattle.c_types.specs.Typing.{module_rules, start}
 use Rattle.program_laws.specs.Growing.{Grows}
 use Rattle.program_laws.specs.Typed.{AreTypedAs}
-use Rattle.typed_laws.specs.WellTyped.{IsWellTyped}
+use Rattle.typed_laws.specs.WellTyped.{IsWellTyped, AreWellTyped}
 
 -- Where the rules give a module, whatever its number and whatever names the program has: each of its functions is well typed
 -- with the table that it leaves, and the table has grown by declarations and uses alone.
@@ -23,8 +23,7 @@ TypedModulesAreWellTyped =
 abbrev pub WellTypedStays : Type 0
 WellTypedStays = (old new : Table) → Grows old new → (f : Function) → IsWellTyped old f → IsWellTyped new f
 
--- the functions of modules that follow the rules one after another are well typed with the table behind the last one
+-- Modules that follow the rules one after another, from a table without names, are well typed with the table that the last one
+-- leaves.
 abbrev pub TypedProgramsAreWellTyped : Type 0
-TypedProgramsAreWellTyped =
-    (number : ℕ) (modules : List Module) (ts : List TypedModule) (old new : Table) → AreTypedAs number old modules ts new
-    → AllByRecursion (IsWellTyped new) (functions_of ts) × Grows old new
+TypedProgramsAreWellTyped = (modules : List Module) (ts : List TypedModule) (syms : Table) → AreTypedAs 1 [] modules ts syms → AreWellTyped (functions_of ts) syms

@@ -1,12 +1,17 @@
 -- Well-typed trees: what the language asks of the types in an expression, a place, a statement and a function (C90, 6.2 to
 -- 6.6). They are read off the tree, the parameters and locals of the function, and the table of the program's names. That a
 -- name is declared before it is used, and that locals are numbered in the order of their declarators, is `IsBound`.
-use Rattle.std.specs.Prelude.{◌≡◌, ◌≢◌, ℕ, Bool, true, false, ◌&&◌, IsTrue, List, [], ◌∷◌, ◌++◌, map, Option, Some, None, slice_get, ⊤}
+use Rattle.std.specs.Prelude.{◌≡◌, ◌≢◌, ◌<◌, ℕ, Bool, true, false, ◌&&◌, IsTrue, List, [], ◌∷◌, ◌++◌, map, Option, Some, None, slice_get, ⊤}
 use Rattle.std.specs.List.{AllByRecursion}
 use Rattle.hlo_num.specs.declared.word.Ty.{Ty}
 use Rattle.hlo_num.specs.declared.word.Ty.TheVariants.{Int}
 use Rattle.hlo_num.specs.Words.{promote, usual}
+use Rattle.sym_tables.specs.declared.entity.Entity.{Entity}
 use Rattle.sym_tables.specs.declared.entity.Entity.TheVariants as entities
+use Rattle.sym_tables.specs.declared.symbol.Standing.{Standing}
+use Rattle.sym_tables.specs.declared.symbol.Standing.TheVariants as standings
+use Rattle.sym_tables.specs.Entities.{is_function, words}
+use Rattle.sym_tables.specs.Symbols.{is_declared}
 use Rattle.sym_tables.specs.Table.{Table}
 use Rattle.c_tree.specs.declared.expression.UnaryOp.{UnaryOp}
 use Rattle.c_tree.specs.declared.expression.UnaryOp.TheVariants.{Plus, Minus, Complement, Not}
@@ -22,7 +27,8 @@ use Rattle.c_typed.specs.Trees as tree
 use Rattle.c_typed.specs.Trees.{Place, Expr, Arguments, Stmt, Sections, Function}
 use Rattle.c_typed.specs.Types.{type_of}
 use Rattle.lower_laws.specs.Bound.{HasValue, IsBound}
-use Rattle.program_laws.specs.Growing.{entity_at}
+use Rattle.program_laws.specs.Growing.{entity_at, standing_at}
+use Rattle.program_laws.specs.Settled.{HasFunction, HaveOwnPids}
 
 -- the types of the parameters, the locals, and the names of the program
 pub record Scope : Type 0 where
@@ -189,3 +195,15 @@ pub record IsWellTyped (syms : Table) (f : Function) : Type 0 where
   pub entity : entity_at syms f.pid ≡ Some (entities.Function f.result (types_of f))
   pub bound : IsBound f
   pub body : IsStmt (scope_of syms f) (record { result = f.result; breaks = false; continues = false }) f.body
+
+-- ## Programs
+
+-- The functions of modules, and the table that they leave: each function is well typed, no two have one PID, each function that
+-- is defined is there, and each object that is defined, tentatively or not, has a word at least.
+pub record AreWellTyped (fs : List Function) (syms : Table) : Type 0 where
+  pub functions : AllByRecursion (IsWellTyped syms) fs
+  pub apart : HaveOwnPids fs
+  pub defined : (pid : ℕ) (gives : Option Ty) (params : List Ty) → entity_at syms pid ≡ Some (entities.Function gives params)
+      → standing_at syms pid ≡ Some standings.Defined → HasFunction fs pid
+  pub objects : (pid : ℕ) (e : Entity) (s : Standing) → entity_at syms pid ≡ Some e → standing_at syms pid ≡ Some s
+      → is_function e ≡ false → is_declared s ≡ false → 0 < words e
