@@ -1,5 +1,5 @@
 -- What the calls of the loader leave in its rows.
-use Rattle.std.proofs.Common.{◌≡◌, ℕ, ◌<◌, Bool, true, false, cond, nat_eq, List, [], ◌∷◌, length, Option, Some, None, Result, Ok, Err, refl, sym, ap, subst, arith, ◌∙◌}
+use Rattle.std.proofs.Common.{◌≡◌, ℕ, ◌<◌, Bool, true, false, cond, List, [], ◌∷◌, length, Option, Some, None, Result, Ok, Err, refl, sym, ap, subst, arith, ◌∙◌}
 use Rattle.std.specs.Prelude.{is_some, is_none}
 use Rattle.naim_core.specs.Charges.{under_sum}
 use Rattle.naim_core.specs.Rows
@@ -20,7 +20,6 @@ use Rattle.naim_loader.specs.declared.forms.Evict.TheVariants as evict
 use Rattle.naim_loader.specs.declared.forms.Move.{Move}
 use Rattle.naim_loader.specs.declared.forms.Move.TheVariants as move
 use Rattle.naim_loader.specs.declared.forms.Pin.{Pin}
-use Rattle.naim_loader.specs.declared.forms.Pin.TheVariants as pin
 use Rattle.naim_loader.specs.declared.forms.PinAnswer.{PinAnswer}
 use Rattle.naim_loader.specs.declared.forms.PinAnswer.TheVariants as answer
 use Rattle.naim_loader.specs.declared.forms.Put.{Put}
@@ -31,16 +30,15 @@ use Rattle.naim_loader.specs.Drafts.{draft_form, draft_value}
 use Rattle.naim_loader.specs.Moves.{AnswersEvict}
 use Rattle.naim_loader.specs.Paged.{Paged, kept_at}
 use Rattle.naim_loader.proofs.Hands.{move_handed}
-use Rattle.naim_loader.proofs.Wholes.{ran}
 use Rattle.paging_rows.specs.Loads.{CanFail, IsCalm, OneOfTwo, Puts, one_of_two, with_pool}
 
-permit_gives : {X : Type 0} (row : Rows.Row) (x y : X) → permit row x ≡ Ok y → x ≡ y
+pub permit_gives : {X : Type 0} (row : Rows.Row) (x y : X) → permit row x ≡ Ok y → x ≡ y
 permit_gives [] x y h = cc
 permit_gives ((true, r) ∷ row) x y h = cc
 permit_gives ((false, r) ∷ row) x y h = permit_gives row x y h
 
 -- an insertion that was taken
-inserted : (s new : Core) (p : ℕ) (f : Form) (e c : ℕ) → s.failure ≡ None → step_of s (event.Insert p f e c) ≡ Ok new → new ≡ with_pool s p f e c
+pub inserted : (s new : Core) (p : ℕ) (f : Form) (e c : ℕ) → s.failure ≡ None → step_of s (event.Insert p f e c) ≡ Ok new → new ≡ with_pool s p f e c
 inserted s new p f e c none h =
     let row = Rows.insert_row s.limit (under_sum s.pools) (is_some (pool_at s.pools p)) (length s.pools) f e c in
     made row (Rows.inserted f e c) (permit row (Rows.inserted f e c)) refl (sym (running s (event.Insert p f e c) none) ∙ h)

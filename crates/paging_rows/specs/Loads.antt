@@ -1,5 +1,5 @@
 -- What the rows of the loader know of it between two calls.
-use Rattle.std.specs.Prelude.{◌≡◌, ◌<◌, ℕ, Bool, true, false, List, [], ◌∷◌, length, nat_eq, Option, Some, None}
+use Rattle.std.specs.Prelude.{◌≡◌, ◌<◌, ℕ, Bool, true, false, List, [], ◌∷◌, length, nat_eq, Option, None}
 use Rattle.naim_core.specs.Rows
 use Rattle.naim_core.specs.State.{Core, empty_hand}
 use Rattle.naim_core.specs.declared.event.Form.{Form}

@@ -9,10 +9,16 @@ mod events;
 #[cfg(test)]
 mod loads;
 #[cfg(test)]
+mod marks;
+#[cfg(test)]
 mod numbers;
 #[cfg(test)]
 mod objects;
 #[cfg(test)]
 mod owns;
 #[cfg(test)]
+mod pairs;
+#[cfg(test)]
 mod records;
+#[cfg(test)]
+mod script;
