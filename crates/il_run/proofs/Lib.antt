@@ -4,6 +4,7 @@ pub mod Calls
 pub mod Counting
 pub mod Entering
 pub mod Growing
+pub mod Leading
 pub mod Main
 pub mod Moves
 pub mod Naming

@@ -1,4 +1,4 @@
--- One step of a machine, with the bytes that it asks for and puts out.
+-- A machine that runs on, with the bytes that it asks for and puts out.
 use Rattle.std.proofs.Common.{◌≡◌, Bool, true, false, ℕ, List, [], ◌∷◌, refl, ap, subst, sym, ◌∙◌}
 use Rattle.std.specs.Prelude.{Option, Some, None, IfSome, MatchOption, ⊤}
 use Rattle.std.specs.Io.KnownBytes.{Appends, Consumes, IsAtEnd, Keeps}
@@ -10,7 +10,7 @@ use Rattle.il_core.specs.Meaning.{MadeCall, add_call}
 use Rattle.il_run.specs.declared.machine.Machine.{Machine}
 use Rattle.il_run.specs.declared.store.Store.{Store}
 use Rattle.il_run.specs.declared.tables.Tables.{Tables}
-use Rattle.il_run.specs.Machine.{routine_in, IsTabled, to_come, GoesOn, Calls, PutsOut, WantsByte, call_into}
+use Rattle.il_run.specs.Machine.{routine_in, IsTabled, to_come, Calls, PutsOut, WantsByte, call_into}
 use Rattle.il_run.specs.Plain.{SetsReg}
 use Rattle.il_run.specs.Counts.{CountsMore, IsCounter}
 use Rattle.il_run.specs.Run.{Round, Uses}
@@ -23,16 +23,6 @@ use Rattle.il_run.proofs.Running.{Appends_nil}
 uses_none : (known : Option (List ℕ)) → Consumes known known []
 uses_none None = tt
 uses_none (Some xs) = refl
-
-pub next_round : (p : IlProgram) (t : Tables) (old new : Machine) (counter : Option Counter) (known put : Option (List ℕ)) (ended : Bool) → GoesOn p t old new → IfSome counter (λ c. IsCounter p c) → Round p t old new counter counter known known put put ended
-next_round p t old new counter known put ended h k = record {
-  sound = h.sound;
-  less = h.less;
-  made = [];
-  counted = counts_none p counter k;
-  goes = λ rest e. record { left = rest; out = []; is_left = e; is_out = Appends_nil put; same = λ output calls. h.same rest output calls ∙ ap (λ (o : List ℕ). to_come p t new rest o calls) (sym (append-nil output)) };
-  uses = λ e. record { bytes = []; out = []; consumed = uses_none known; alike = λ more output calls. h.same more output calls ∙ ap (λ (o : List ℕ). to_come p t new more o calls) (sym (append-nil output)) };
-}
 
 pub call_round : (p : IlProgram) (t : Tables) (old new : Machine) (counter counter_now : Option Counter) (known put : Option (List ℕ)) (ended : Bool) → (h : Calls p t old new) → CountsMore p counter counter_now (call_into p new h.called ∷ []) → Round p t old new counter counter_now known known put put ended
 call_round p t old new counter counter_now known put ended h k = record {

@@ -7,11 +7,10 @@ use Rattle.std.proofs.lemmas.Option.{none-some, same_Some}
 use Rattle.outside.specs.Asks.{NotesAsk, bytes_given, given, next_ask}
 use Rattle.outside.specs.declared.source.Ask.{Ask}
 use Rattle.il_core.specs.declared.program.IlProgram.{IlProgram}
-use Rattle.il_core.specs.declared.instr.Instr.TheVariants.{GetChar}
 use Rattle.il_run.specs.declared.input.Ahead.{Ahead}
 use Rattle.il_run.specs.declared.machine.Machine.{Machine}
 use Rattle.il_run.specs.declared.tables.Tables.{Tables}
-use Rattle.il_run.specs.Machine.{IsNext, IsSound, IsTabled}
+use Rattle.il_run.specs.Machine.{ComesToGet, IsTabled}
 use Rattle.il_run.specs.Run.{AreWanted, AsksAtGet, AsksWhereWanted, IfTold, Wants}
 use Rattle.il_run.specs.Streams.{AsksOnce, IsGiven, NotesGiven, ahead}
 use Rattle.il_run.proofs.Running.{Using, empty_ahead, none_ahead}
@@ -107,18 +106,18 @@ module _ (p : IlProgram) (turns : ℕ) (bytes : List ℕ) where
   used_given : (used rest : List ℕ) (n : ℕ) → bytes ≡ used ++ rest → rest ≡ drop n bytes → used ≡ take n bytes
   used_given used rest n split is = append_cancel_right used (take n bytes) rest (sym split ∙ sym (take-append-drop n bytes) ∙ ap (λ (zs : List ℕ). take n bytes ++ zs) (sym is))
 
-  wants_here : (t : Tables) (m : Machine) (a : Ahead) (left : Option (List ℕ)) (n register : ℕ) → IsTabled p t → IsSound p t m → Using p t turns m (prepend_known (ahead a) left) bytes → IsNext p m (GetChar register) → a.next ≡ a.end → left ≡ Some (drop n bytes) → Wants p turns (take n bytes)
-  wants_here t m a left n register tabled sound u next empty e =
+  wants_here : (t : Tables) (m : Machine) (a : Ahead) (left : Option (List ℕ)) (n register : ℕ) → IsTabled p t → Using p t turns m (prepend_known (ahead a) left) bytes → ComesToGet p t m register → a.next ≡ a.end → left ≡ Some (drop n bytes) → Wants p turns (take n bytes)
+  wants_here t m a left n register tabled u comes empty e =
       let known : prepend_known (ahead a) left ≡ Some (drop n bytes) = ap (λ (xs : List ℕ). prepend_known xs left) (empty_ahead a empty) ∙ none_ahead left ∙ e in
       subst (λ (xs : List ℕ). Wants p turns xs) (used_given u.used u.rest n u.split (same_Some _ _ (sym u.is_rest ∙ known)))
-      (record { tables = t; machine = m; tabled = tabled; sound = sound; register = register; output = u.output; calls = u.calls; next = next; alike = u.alike })
+      (record { tables = t; machine = comes.machine; tabled = tabled; sound = comes.way.sound; register = register; output = u.output; calls = u.calls; next = comes.next; alike = λ more. u.alike more ∙ comes.way.same more u.output u.calls })
 
-  -- a step keeps this
-  pub placed_more : (t : Tables) (m : Machine) (a : Ahead) (old asks asks_now : Option (List Ask)) (left left_now : Option (List ℕ)) → IsTabled p t → IsSound p t m → (a.ended ≡ false → Using p t turns m (prepend_known (ahead a) left) bytes)
-      → PlacedIfTold p turns old asks left bytes → AsksAtGet p m a left left_now asks asks_now → PlacedIfTold p turns old asks_now left_now bytes
-  placed_more t m a old asks asks_now left left_now tabled sound u h (inl same) =
+  -- a round keeps this
+  pub placed_more : (t : Tables) (m : Machine) (a : Ahead) (old asks asks_now : Option (List Ask)) (left left_now : Option (List ℕ)) → IsTabled p t → (a.ended ≡ false → Using p t turns m (prepend_known (ahead a) left) bytes)
+      → PlacedIfTold p turns old asks left bytes → AsksAtGet p t m a left left_now asks asks_now → PlacedIfTold p turns old asks_now left_now bytes
+  placed_more t m a old asks asks_now left left_now tabled u h (inl same) =
       subst (λ (o : Option (List Ask)). PlacedIfTold p turns old o left_now bytes) (sym same.1) (subst (λ (o : Option (List ℕ)). PlacedIfTold p turns old asks o bytes) (sym same.0) h)
-  placed_more t m a None asks asks_now left left_now tabled sound u h (inr once) = tt
-  placed_more t m a (Some old) None asks_now left left_now tabled sound u h (inr once) = absurd h
-  placed_more t m a (Some old) (Some asks) asks_now left left_now tabled sound u h (inr once) =
-      once_more old asks asks_now left left_now once.1.count h (wants_here t m a left (given h.added) once.0.0 tabled sound (u once.1.open_yet) once.0.1 once.1.empty h.is_left) once.1.noted once.1.given
+  placed_more t m a None asks asks_now left left_now tabled u h (inr once) = tt
+  placed_more t m a (Some old) None asks_now left left_now tabled u h (inr once) = absurd h
+  placed_more t m a (Some old) (Some asks) asks_now left left_now tabled u h (inr once) =
+      once_more old asks asks_now left left_now once.1.count h (wants_here t m a left (given h.added) once.0.0 tabled (u once.1.open_yet) once.0.1 once.1.empty h.is_left) once.1.noted once.1.given

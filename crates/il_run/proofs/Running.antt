@@ -8,7 +8,7 @@ use Rattle.il_core.specs.Program.{main_pid}
 use Rattle.il_core.specs.Meaning.{MadeCall, add_call, act_noting, at_start, calls_made, log_of, run_of}
 use Rattle.il_run.specs.declared.machine.Machine.{Machine}
 use Rattle.il_run.specs.declared.tables.Tables.{Tables}
-use Rattle.il_run.specs.Machine.{to_come, IsTabled, IsSound}
+use Rattle.il_run.specs.Machine.{to_come, IsTabled}
 use Rattle.std.proofs.lemmas.List.{append-nil, append_cancel_left, take-append-le, take_min, drop_all, length-take}
 use Rattle.il_run.specs.declared.ending.Ending.{Ending}
 use Rattle.il_run.specs.Start.{Starts}
@@ -210,13 +210,13 @@ none_ahead (Some xs) = refl
 pub empty_ahead : (a : Ahead) → a.next ≡ a.end → ahead a ≡ []
 empty_ahead a e = drop_all a.next (take a.end a.block.items) (omega (arith, length-take a.end a.block.items))
 
-pub round_wants : (p : IlProgram) (t : Tables) (turns : ℕ) (m : Machine) (old new : Ahead) (known left : Option (List ℕ)) (bytes : List ℕ) → IsTabled p t → IsSound p t m → Using p t turns m known bytes → FailedAsk p m old new known (prepend_known (ahead new) left) → AsksFor p turns left bytes
-round_wants p t turns m old new known left bytes tabled sound h f = record {
+pub round_wants : (p : IlProgram) (t : Tables) (turns : ℕ) (m : Machine) (old new : Ahead) (known left : Option (List ℕ)) (bytes : List ℕ) → IsTabled p t → Using p t turns m known bytes → FailedAsk p t m old new known (prepend_known (ahead new) left) → AsksFor p turns left bytes
+round_wants p t turns m old new known left bytes tabled h f = record {
   used = h.used;
   rest = h.rest;
   split = h.split;
   is_left = sym (ap (λ (xs : List ℕ). prepend_known xs left) (empty_ahead new f.at.now) ∙ none_ahead left) ∙ kept_left known (prepend_known (ahead new) left) h.rest f.kept h.is_rest;
-  wants = record { tables = t; machine = m; tabled = tabled; sound = sound; register = f.register; output = h.output; calls = h.calls; next = f.next; alike = h.alike };
+  wants = record { tables = t; machine = f.comes.machine; tabled = tabled; sound = f.comes.way.sound; register = f.register; output = h.output; calls = h.calls; next = f.comes.next; alike = λ more. h.alike more ∙ f.comes.way.same more h.output h.calls };
 }
 
 pub still_open : (a b : Bool) → (a ≡ true → b ≡ true) → b ≡ false → a ≡ false

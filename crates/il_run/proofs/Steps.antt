@@ -2,6 +2,7 @@
 use Rattle.std.proofs.Common.{◌≡◌, ℕ, zero, suc, ◌+◌, ◌-◌, ◌<◌, ◌≤◌, List, [], ◌∷◌, ◌++◌, length, drop, get_or, refl, ap, subst, sym, ◌∙◌, arith}
 use Rattle.std.specs.declared.alloc.Global.{Global}
 use Rattle.std.specs.Prelude.{Vec, slice_index, sum, sum_by, Option, Some, None, Ok, Err, MatchOption, ⊤}
+use Rattle.std.proofs.Math.Nat.{le_refl}
 use Rattle.std.proofs.lemmas.List.{get_or_read}
 use Rattle.std.proofs.lemmas.List.Sums.{sum_by_push}
 use Rattle.hlo_num.specs.declared.word.Trap.{Trap}
@@ -27,7 +28,7 @@ use Rattle.il_run.specs.declared.machine.Move.TheVariants as move
 use Rattle.il_run.specs.declared.store.Store.{Store}
 use Rattle.il_run.specs.declared.tables.Tables.{Tables}
 use Rattle.il_run.specs.Plain.{Executes, Fits, IsPlain, KeepsBelow, SetsReg, frame_in}
-use Rattle.il_run.specs.Machine.{routine_in, block_in, IsTabled, IsPlace, IsSound, IsNext, Over, resume, site_at, world_in, work, to_come, Moved}
+use Rattle.il_run.specs.Machine.{routine_in, block_in, IsTabled, IsPlace, IsSound, GoesOn, IsNext, Over, resume, site_at, world_in, work, to_come, Moved}
 use Rattle.il_run.proofs.Arms.{sets_below}
 use Rattle.il_run.proofs.Places.{block_is_valid, routine_valid, work_step, work_later, work_whole, work_some}
 use Rattle.il_run.proofs.Moves.{plain_left, plain_trap, turn_left, turn_over, get_left, put_left, jump_left, branch_left, branch_zero, loop_left, loop_over, exit_left, AtEnd, end_run}
@@ -44,7 +45,7 @@ module _ (p : IlProgram) (t : Tables) (tabled : IsTabled p t) (old : Machine) (s
   next_work : (i : Instr) → IsNext p old i → work (routine_in p old.routine) old.block (old.instr + 1) < work (routine_in p old.routine) old.block old.instr
   next_work i next = subst (λ (n : ℕ). work (routine_in p old.routine) old.block n < work (routine_in p old.routine) old.block old.instr) (let e : suc old.instr ≡ old.instr + 1 = omega arith in e) (work_step (routine_in p old.routine) old.block old.instr sound.place.in_routine next.within)
 
-  pub turn_moves : IsNext p old Turn → 0 < old.turns → Moved p t old (record old { instr = old.instr + 1; turns = old.turns - 1 }) move.Next
+  pub turn_moves : IsNext p old Turn → 0 < old.turns → GoesOn p t old (record old { instr = old.instr + 1; turns = old.turns - 1 })
   turn_moves next some = record {
     sound = moved_sound {S = List MadeCall} add_call p t tabled old sound old.store same_below old.block (old.instr + 1) (old.turns - 1) (next_place Turn next);
     less = omega (arith, next_work Turn next);
@@ -65,7 +66,7 @@ module _ (p : IlProgram) (t : Tables) (tabled : IsTabled p t) (old : Machine) (s
   get_moves d next lt = record {
     sound = moved_sound {S = List MadeCall} add_call p t tabled old sound old.store same_below old.block (old.instr + 1) old.turns (next_place (GetChar d) next);
     less = omega (arith, next_work (GetChar d) next);
-    at = next;
+    at = record { machine = old; way = record { sound = sound; no_more = le_refl _; same = λ input output calls. refl }; next = next };
     reg = lt;
     same = λ input output calls s set. get_left add_call p t tabled old sound d s input output calls next lt set;
   }
@@ -78,7 +79,7 @@ module _ (p : IlProgram) (t : Tables) (tabled : IsTabled p t) (old : Machine) (s
     same = λ input output calls. put_left add_call p t tabled old sound d x v b s input output calls next lt ltx isv isb set;
   }
 
-  pub plain_moves : (i : Instr) (s : Store) → IsNext p old i → IsPlain i → Executes (routine_in p old.routine) t.objects.sizes.items i old.store s (Ok tt) → Moved p t old (record old { store = s; instr = old.instr + 1 }) move.Next
+  pub plain_moves : (i : Instr) (s : Store) → IsNext p old i → IsPlain i → Executes (routine_in p old.routine) t.objects.sizes.items i old.store s (Ok tt) → GoesOn p t old (record old { store = s; instr = old.instr + 1 })
   plain_moves i s next is done = record {
     sound = moved_sound {S = List MadeCall} add_call p t tabled old sound s done.below old.block (old.instr + 1) old.turns (next_place i next);
     less = omega (arith, next_work i next);
@@ -121,26 +122,26 @@ module _ (p : IlProgram) (t : Tables) (tabled : IsTabled p t) (old : Machine) (s
   later_place : (u : ℕ) → u < length (routine_in p old.routine).blocks → IsPlace p old.routine u 0
   later_place u lt = record { in_program = sound.place.in_program; in_routine = lt; in_block = omega arith }
 
-  jumped : (u : ℕ) → old.block < u → u < length (routine_in p old.routine).blocks → ((input output : List ℕ) (calls : List MadeCall) → to_come p t old input output calls ≡ to_come p t (record old { block = u; instr = 0 }) input output calls) → Moved p t old (record old { block = u; instr = 0 }) move.Next
+  jumped : (u : ℕ) → old.block < u → u < length (routine_in p old.routine).blocks → ((input output : List ℕ) (calls : List MadeCall) → to_come p t old input output calls ≡ to_come p t (record old { block = u; instr = 0 }) input output calls) → GoesOn p t old (record old { block = u; instr = 0 })
   jumped u less lt same = record {
     sound = moved_sound {S = List MadeCall} add_call p t tabled old sound old.store same_below u 0 old.turns (later_place u lt);
     less = omega (arith, work_later (routine_in p old.routine) old.block old.instr u sound.place.in_routine sound.place.in_block less);
     same = same;
   }
 
-  pub jump_moves : (u : ℕ) → AtEnd {S = List MadeCall} add_call p t tabled old sound (ends.Jump u) → old.block < u → u < length (routine_in p old.routine).blocks → Moved p t old (record old { block = u; instr = 0 }) move.Next
+  pub jump_moves : (u : ℕ) → AtEnd {S = List MadeCall} add_call p t tabled old sound (ends.Jump u) → old.block < u → u < length (routine_in p old.routine).blocks → GoesOn p t old (record old { block = u; instr = 0 })
   jump_moves u here less lt = jumped u less lt (λ input output calls. jump_left add_call p t tabled old sound u input output calls here less)
 
   pub branch_moves : (x u v c : ℕ) → AtEnd {S = List MadeCall} add_call p t tabled old sound (ends.Branch x u v) → x < (routine_in p old.routine).regs → c ≡ slice_index old.store.regs.items (old.store.at_regs + x) → 0 < c
-      → old.block < u → u < length (routine_in p old.routine).blocks → Moved p t old (record old { block = u; instr = 0 }) move.Next
+      → old.block < u → u < length (routine_in p old.routine).blocks → GoesOn p t old (record old { block = u; instr = 0 })
   branch_moves x u v c here ltx is some less lt = jumped u less lt (λ input output calls. branch_left add_call p t tabled old sound x u v c input output calls here ltx is some less)
 
   pub branch_falls : (x u v c : ℕ) → AtEnd {S = List MadeCall} add_call p t tabled old sound (ends.Branch x u v) → x < (routine_in p old.routine).regs → c ≡ slice_index old.store.regs.items (old.store.at_regs + x) → c ≡ 0
-      → old.block < v → v < length (routine_in p old.routine).blocks → Moved p t old (record old { block = v; instr = 0 }) move.Next
+      → old.block < v → v < length (routine_in p old.routine).blocks → GoesOn p t old (record old { block = v; instr = 0 })
   branch_falls x u v c here ltx is none less lt = jumped v less lt (λ input output calls. branch_zero add_call p t tabled old sound x u v c input output calls here ltx is none less)
 
   pub loop_moves : (u : ℕ) → AtEnd {S = List MadeCall} add_call p t tabled old sound (ends.Loop u) → 0 < old.turns → u < length (routine_in p old.routine).blocks → blocks_size (routine_in p old.routine).blocks ≤ max_size
-      → Moved p t old (record old { block = u; instr = 0; turns = old.turns - 1 }) move.Next
+      → GoesOn p t old (record old { block = u; instr = 0; turns = old.turns - 1 })
   loop_moves u here some lt few = record {
     sound = moved_sound {S = List MadeCall} add_call p t tabled old sound old.store same_below u 0 (old.turns - 1) (later_place u lt);
     less = omega (arith, work_whole (routine_in p old.routine) u);
@@ -170,7 +171,7 @@ module _ (p : IlProgram) (t : Tables) (tabled : IsTabled p t) (old : Machine) (s
 
   pub return_moves : (x : Option ℕ) (v : ℕ) (rest : List Suspended) (y : Suspended) (s1 s2 : Store) (stack : Vec Suspended Global) → AtEnd {S = List MadeCall} add_call p t tabled old sound (ends.Return x) → v ≡ returned (frame_in old.store (routine_in p old.routine)) x
       → old.stack.items ≡ rest ++ y ∷ [] → Leaves old.store s1 y.at_regs y.at_elements → Receives s1 s2 y.dest v → stack.items ≡ rest
-      → Moved p t old (record { store = s2; routine = y.routine; block = y.block; instr = y.instr; stack = stack; turns = old.turns }) move.Next
+      → GoesOn p t old (record { store = s2; routine = y.routine; block = y.block; instr = y.instr; stack = stack; turns = old.turns })
   return_moves x v rest y s1 s2 stack here is isy leaves got stacks =
       let m = left_call {S = List MadeCall} add_call p t tabled old sound rest y stack isy stacks s1 leaves in
       let msound = left_sound {S = List MadeCall} add_call p t tabled old sound rest y stack isy stacks s1 leaves in

@@ -1,5 +1,5 @@
 -- What is still to come from a running program.
-use Rattle.std.specs.Prelude.{◌≡◌, ℕ, suc, ◌+◌, ◌-◌, ◌*◌, ◌^◌, ◌<◌, ◌≤◌, ◌++◌, false, List, [], ◌∷◌, length, take, drop, sum, sum_by, slice_index, slice_index_or, Option, Some}
+use Rattle.std.specs.Prelude.{◌≡◌, ℕ, suc, ◌+◌, ◌-◌, ◌*◌, ◌^◌, ◌<◌, ◌≤◌, ◌++◌, false, List, [], ◌∷◌, length, take, drop, sum, sum_by, slice_index, slice_index_or, Option, Some, None}
 use Rattle.il_core.specs.Limits.{max_pids}
 use Rattle.il_core.specs.declared.instr.Block.{Block}
 use Rattle.il_core.specs.declared.instr.Instr.{Instr}
@@ -21,9 +21,9 @@ use Rattle.il_run.specs.declared.tables.Tables.{Tables}
 use Rattle.il_run.specs.declared.machine.Suspended.{Suspended}
 use Rattle.il_run.specs.declared.machine.Machine.{Machine}
 use Rattle.il_run.specs.declared.machine.Move.{Move}
-use Rattle.il_run.specs.declared.machine.Move.TheVariants.{Next, Called, Get, Put, End}
+use Rattle.il_run.specs.declared.machine.Move.TheVariants.{Called, Get, Put, End}
 use Rattle.il_core.specs.Places.{run_from, sites_before}
-use Rattle.il_run.specs.Plain.{frame_in, Holds, SetsReg}
+use Rattle.il_run.specs.Plain.{frame_in, Holds, IsPlain, SetsReg}
 use Rattle.il_run.specs.Words.{window, arrays_in, AreStarts}
 
 -- the ending as the meaning has it
@@ -117,7 +117,14 @@ pub record IsNext (p : IlProgram) (m : Machine) (i : Instr) : Type 0 where
   pub few : m.instr < 2 ^ 63
   pub is : drop m.instr (block_in (routine_in p m.routine) m.block).instrs ≡ i ∷ drop (suc m.instr) (block_in (routine_in p m.routine) m.block).instrs
 
--- one step further, nothing of the outside being met
+-- from the first machine the program comes to the second, or stands there already: nothing of the outside is met between
+-- them, and no call is made
+pub record Leads (p : IlProgram) (t : Tables) (old new : Machine) : Type 0 where
+  pub sound : IsSound p t new
+  pub no_more : fuel p new ≤ fuel p old
+  pub same : (input output : List ℕ) (calls : List MadeCall) → to_come p t old input output calls ≡ to_come p t new input output calls
+
+-- the same with one step at least
 pub record GoesOn (p : IlProgram) (t : Tables) (old new : Machine) : Type 0 where
   pub sound : IsSound p t new
   pub less : fuel p new < fuel p old
@@ -128,11 +135,17 @@ pub record PutsOut (p : IlProgram) (t : Tables) (old new : Machine) (b : ℕ) : 
   pub less : fuel p new < fuel p old
   pub same : (input output : List ℕ) (calls : List MadeCall) → to_come p t old input output calls ≡ to_come p t new input (output ++ b ∷ []) calls
 
+-- the program comes to a `getchar` for this register
+pub record ComesToGet (p : IlProgram) (t : Tables) (old : Machine) (d : ℕ) : Type 0 where
+  pub machine : Machine
+  pub way : Leads p t old machine
+  pub next : IsNext p machine (GetChar d)
+
 -- the next byte is wanted for a register
 pub record WantsByte (p : IlProgram) (t : Tables) (old new : Machine) (d : ℕ) : Type 0 where
   pub sound : IsSound p t new
   pub less : fuel p new < fuel p old
-  pub at : IsNext p old (GetChar d)
+  pub at : ComesToGet p t old d
   pub reg : d < (routine_in p new.routine).regs
   pub same : (input output : List ℕ) (calls : List MadeCall) (s : Store) → SetsReg new.store s d (first_byte input) → to_come p t old input output calls ≡ to_come p t (record new { store = s }) (other_bytes input) output calls
 
@@ -174,12 +187,24 @@ pub record Over (e : world.Ending) (output : List ℕ) (calls : List MadeCall) (
   pub run : run_of o ≡ Some (record { output = output; ending = e })
   pub made : log_of [] o ≡ calls
 
+-- the program ran on to what it asks for
 abbrev pub Moved : IlProgram → Tables → Machine → Machine → Move → Type 0
-Moved p t old new Next = GoesOn p t old new
 Moved p t old new Called = Calls p t old new
 Moved p t old new (Get d) = WantsByte p t old new d
 Moved p t old new (Put b) = PutsOut p t old new b
 Moved p t old new (End e) = (input output : List ℕ) (calls : List MadeCall) → Over (ending_of e) output calls (to_come p t old input output calls)
+
+-- one step or more, with what is asked for, if anything is
+abbrev pub Steps : IlProgram → Tables → Machine → Machine → Option Move → Type 0
+Steps p t old new None = GoesOn p t old new
+Steps p t old new (Some asked) = Moved p t old new asked
+
+-- the plain instructions in a row were executed, and none of them comes next in the block
+pub record RunsPlain (p : IlProgram) (t : Tables) (old new : Machine) : Type 0 where
+  pub way : Leads p t old new
+  pub routine : new.routine ≡ old.routine
+  pub block : new.block ≡ old.block
+  pub stops : (i : Instr) → IsNext p new i → IsPlain i → ⊥
 
 -- a return of this value comes next
 pub record Returning (p : IlProgram) (m : Machine) (v : ℕ) : Type 0 where

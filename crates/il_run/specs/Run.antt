@@ -17,7 +17,7 @@ use Rattle.il_run.specs.Streams.{AsksOnce, FailsAt, GainsFront}
 use Rattle.il_run.specs.declared.counter.Counter.{Counter}
 use Rattle.outside.specs.Asks.{bytes_given}
 use Rattle.outside.specs.declared.source.Ask.{Ask}
-use Rattle.il_run.specs.Machine.{ending_of, IsNext, IsSound, IsTabled, Over, fuel, to_come}
+use Rattle.il_run.specs.Machine.{ComesToGet, ending_of, IsNext, IsSound, IsTabled, Over, fuel, to_come}
 
 -- of told bytes; nothing where none are told
 abbrev pub IfTold : Option (List ℕ) → (List ℕ → Type 0) → Type 0
@@ -42,7 +42,7 @@ HasReason fault.Input input input_now output output_now = Rose input input_now
 HasReason fault.Output input input_now output output_now = Rose output output_now
 HasReason fault.Memory input input_now output output_now = ⊤
 
--- one step of a machine whose known input is left, what it puts out, and the calls that it makes
+-- a machine runs on: its known input that is left, what it puts out, and the calls that it makes
 pub record Goes (p : IlProgram) (t : Tables) (old new : Machine) (made : List MadeCall) (known put put_now : Option (List ℕ)) (rest : List ℕ) : Type 0 where
   pub left : List ℕ
   pub out : List ℕ
@@ -50,7 +50,7 @@ pub record Goes (p : IlProgram) (t : Tables) (old new : Machine) (made : List Ma
   pub is_out : Appends put put_now out
   pub same : (output : List ℕ) (calls : List MadeCall) → to_come p t old rest output calls ≡ to_come p t new left (output ++ out) (made ++ calls)
 
--- some bytes are used in a step, and the step is the same whatever input follows them
+-- some bytes are used, and all is the same whatever input follows them
 pub record Uses (p : IlProgram) (t : Tables) (old new : Machine) (made : List MadeCall) (known known_now : Option (List ℕ)) : Type 0 where
   pub bytes : List ℕ
   pub out : List ℕ
@@ -65,7 +65,7 @@ pub record Round (p : IlProgram) (t : Tables) (old new : Machine) (counter count
   pub goes : (rest : List ℕ) → known ≡ Some rest → Goes p t old new made known_now put put_now rest
   pub uses : ended ≡ false → Uses p t old new made known known_now
 
--- the program ended in this step, and the sink took what waited
+-- the program ran to its end, and the sink took what waited
 pub record LastRound (p : IlProgram) (t : Tables) (old : Machine) (e : Ending) (taken taken_now : Option (List ℕ)) (waiting : List ℕ) : Type 0 where
   pub run : (rest output : List ℕ) (calls : List MadeCall) → Over (ending_of e) output calls (to_come p t old rest output calls)
   pub took : Appends taken taken_now waiting
@@ -91,10 +91,10 @@ pub record AsksFor (p : IlProgram) (turns : ℕ) (left : Option (List ℕ)) (byt
   pub is_left : left ≡ Some rest
   pub wants : Wants p turns used
 
--- the source failed in this step, where a byte was wanted
-pub record FailedAsk (p : IlProgram) (m : Machine) (old new : Ahead) (known known_now : Option (List ℕ)) : Type 0 where
+-- the source failed where the program had come to a `getchar`
+pub record FailedAsk (p : IlProgram) (t : Tables) (m : Machine) (old new : Ahead) (known known_now : Option (List ℕ)) : Type 0 where
   pub register : ℕ
-  pub next : IsNext p m (GetChar register)
+  pub comes : ComesToGet p t m register
   pub at : FailsAt old new
   pub kept : Keeps known known_now
 
@@ -120,7 +120,7 @@ AsksWhereWanted p turns None new bytes = ⊤
 AsksWhereWanted p turns (Some old) None bytes = ⊥
 AsksWhereWanted p turns (Some old) (Some new) bytes = AsksWanted p turns old new bytes
 
--- a step calls the source at most once, at a `getchar` for which no byte is ahead
-abbrev pub AsksAtGet : IlProgram → Machine → Ahead → Option (List ℕ) → Option (List ℕ) → Option (List Ask) → Option (List Ask) → Type 0
-AsksAtGet p m ahead left left_now asks asks_now =
-    ((left_now ≡ left) × (asks_now ≡ asks)) ⊎ (((register : ℕ) × IsNext p m (GetChar register)) × AsksOnce ahead left left_now asks asks_now)
+-- the source is called at most once, where the program has come to a `getchar` for which no byte is ahead
+abbrev pub AsksAtGet : IlProgram → Tables → Machine → Ahead → Option (List ℕ) → Option (List ℕ) → Option (List Ask) → Option (List Ask) → Type 0
+AsksAtGet p t m ahead left left_now asks asks_now =
+    ((left_now ≡ left) × (asks_now ≡ asks)) ⊎ (((register : ℕ) × ComesToGet p t m register) × AsksOnce ahead left left_now asks asks_now)

@@ -1,15 +1,15 @@
-//! A running program, step by step.
-ghost use Rattle.std.specs.Prelude.{◌≡◌, ◌^◌, ◌<◌, ◌≤◌, IfOk, length};
+//! A running program, from one thing that it asks for to the next.
+ghost use Rattle.std.specs.Prelude.{◌≡◌, ◌<◌, ◌≤◌, IfOk, MatchResult, length};
 ghost use Rattle.il_core.specs.Limits.{max_size};
 ghost use Rattle.il_core.specs.Size.{blocks_size};
 ghost use Rattle.il_core.specs.Valid.{IsProgram};
-ghost use Rattle.il_run.specs.Machine.{IsNext, IsSound, IsTabled, Moved, Returning, block_in, routine_in};
-ghost use Rattle.il_run.specs.Plain.{Fits, IsPlain};
+ghost use Rattle.il_run.specs.Machine.{IsNext, IsSound, IsTabled, Moved, Returning, RunsPlain, Steps, block_in, routine_in};
+ghost use Rattle.il_run.specs.Plain.{IsPlain};
 
 use crate::ending::Ending;
-use crate::store::Store;
+use crate::store::{Store, is_plain};
 use crate::tables::Tables;
-use hlo_num::Word;
+use hlo_num::{Trap, Word};
 use il_core::{End, IlProgram, Instr, Routine};
 use std::alloc::AllocError;
 
@@ -39,12 +39,10 @@ pub struct Machine {
     pub turns: u64,
 }
 
-/// What a step asks for.
+/// What a program asks for where it doesn't go on by itself.
 #[derive(Clone, Copy)]
 pub enum Move {
-    /// Nothing.
-    Next,
-    /// Nothing, and a call was made: the last one that waits made it.
+    /// Nothing, but a call was made: the last one that waits made it.
     Called,
     /// A register gets the next byte of the input, or 4294967295 at its end.
     Get(u32),
@@ -55,17 +53,37 @@ pub enum Move {
 }
 
 impl Machine {
-    /// One step: an instruction, or the end of a block. Want of memory leaves the machine in no
-    /// state that anything is said of.
+    /// Runs on until the program makes a call, meets the outside or ends. Want of memory leaves the
+    /// machine in no state that anything is said of.
     pub fn advance(&mut self, p: &IlProgram, t: &Tables) -> Result<Move, AllocError>
         requires valid { IsProgram p.now }
         requires tabled { IsTabled p.now t.now }
         requires sound { IsSound p.now t.now self.old }
         ensures { IfOk result (λ move. Moved p.now t.now self.old self.new move) }
     {
+        'running: loop {
+            if let Some(asked) = self.run_block(p, t)? {
+                return Ok(asked);
+            }
+        }
+    }
+
+    /// The current block from its next instruction on: the plain ones that follow in a row, and then
+    /// one that isn't plain, or the block's end.
+    #[inline]
+    fn run_block(&mut self, p: &IlProgram, t: &Tables) -> Result<Option<Move>, AllocError>
+        requires valid { IsProgram p.now }
+        requires tabled { IsTabled p.now t.now }
+        requires sound { IsSound p.now t.now self.old }
+        ensures { IfOk result (λ asked. Steps p.now t.now self.old self.new asked) }
+    {
         let routine = &p.routines.as_slice()[self.routine as usize];
         let block = &routine.blocks.as_slice()[self.block as usize];
         let instrs = block.instrs.as_slice();
+        match self.run_plain(p, t, routine, instrs) {
+            Ok(()) => {}
+            Err(trap) => return Ok(Some(Move::End(Ending::Trapped(trap)))),
+        }
         if self.instr < instrs.len() {
             self.execute(p, t, routine, &instrs[self.instr])
         } else {
@@ -73,6 +91,42 @@ impl Machine {
         }
     }
 
+    /// The plain instructions in a row from the next one on, up to one that isn't plain, or to the
+    /// block's end.
+    #[inline]
+    fn run_plain(
+        &mut self,
+        p: &IlProgram,
+        t: &Tables,
+        routine: &Routine,
+        instrs: &[Instr],
+    ) -> Result<(), Trap>
+        requires valid { IsProgram p.now }
+        requires tabled { IsTabled p.now t.now }
+        requires sound { IsSound p.now t.now self.old }
+        requires routine { routine.now ≡ routine_in p.now self.old.routine }
+        requires instrs { instrs.now ≡ (block_in (routine_in p.now self.old.routine) self.old.block).instrs }
+        ensures { MatchResult result (λ _. RunsPlain p.now t.now self.old self.new) (λ trap. Moved p.now t.now self.old self.new (Move.End (Ending.Trapped trap))) }
+    {
+        let arrays = &t.arrays[self.routine as usize];
+        let mut at = self.instr;
+        'instrs: while at < instrs.len() {
+            let instr = &instrs[at];
+            if !is_plain(instr) {
+                self.instr = at;
+                return Ok(());
+            }
+            match self.store.plain(routine, arrays, &t.objects, instr) {
+                Ok(()) => {}
+                Err(trap) => return Err(trap),
+            }
+            at += 1;
+        }
+        self.instr = at;
+        Ok(())
+    }
+
+    /// An instruction that isn't plain.
     #[inline]
     fn execute(
         &mut self,
@@ -80,13 +134,14 @@ impl Machine {
         t: &Tables,
         routine: &Routine,
         instr: &Instr,
-    ) -> Result<Move, AllocError>
+    ) -> Result<Option<Move>, AllocError>
         requires valid { IsProgram p.now }
         requires tabled { IsTabled p.now t.now }
         requires sound { IsSound p.now t.now self.old }
         requires routine { routine.now ≡ routine_in p.now self.old.routine }
         requires next { IsNext p.now self.old instr.now }
-        ensures { IfOk result (λ move. Moved p.now t.now self.old self.new move) }
+        requires special { IsPlain instr.now → ⊥ }
+        ensures { IfOk result (λ asked. Steps p.now t.now self.old self.new asked) }
     {
         match instr {
             Instr::Turn => Ok(self.take_turn(p, t)),
@@ -95,26 +150,29 @@ impl Machine {
                 callee,
                 count,
                 args,
-            } => self.call(p, t, routine, *dest, *callee, *count, args.as_slice()),
-            Instr::GetChar(d) => Ok(self.get(p, t, *d)),
-            Instr::PutChar(d, s) => Ok(self.put(p, t, *d, *s)),
-            _ => Ok(self.plain(p, t, routine, instr)),
+            } => {
+                let made = self.call(p, t, routine, *dest, *callee, *count, args.as_slice())?;
+                Ok(Some(made))
+            }
+            Instr::GetChar(d) => Ok(Some(self.get(p, t, *d))),
+            Instr::PutChar(d, s) => Ok(Some(self.put(p, t, *d, *s))),
+            _ => unreachable!(),
         }
     }
 
     /// A turn, where one is left.
-    fn take_turn(&mut self, p: &IlProgram, t: &Tables) -> Move
+    fn take_turn(&mut self, p: &IlProgram, t: &Tables) -> Option<Move>
         requires tabled { IsTabled p.now t.now }
         requires sound { IsSound p.now t.now self.old }
         requires next { IsNext p.now self.old Instr.Turn }
-        ensures { Moved p.now t.now self.old self.new result }
+        ensures { Steps p.now t.now self.old self.new result }
     {
         if self.turns == 0 {
-            return Move::End(Ending::OutOfTurns);
+            return Some(Move::End(Ending::OutOfTurns));
         }
         self.turns -= 1;
         self.instr += 1;
-        Move::Next
+        None
     }
 
     /// The next byte is wanted.
@@ -143,27 +201,6 @@ impl Machine {
         self.store.set(d, b);
         self.instr += 1;
         Move::Put(b as u8)
-    }
-
-    /// An instruction on words alone.
-    #[inline]
-    fn plain(&mut self, p: &IlProgram, t: &Tables, routine: &Routine, instr: &Instr) -> Move
-        requires tabled { IsTabled p.now t.now }
-        requires sound { IsSound p.now t.now self.old }
-        requires routine { routine.now ≡ routine_in p.now self.old.routine }
-        requires next { IsNext p.now self.old instr.now }
-        requires plain { IsPlain instr.now }
-        requires fits { Fits routine.now t.now.objects.sizes.items instr.now }
-        ensures { Moved p.now t.now self.old self.new result }
-    {
-        let arrays = &t.arrays[self.routine as usize];
-        match self.store.plain(routine, arrays, &t.objects, instr) {
-            Ok(()) => {
-                self.instr += 1;
-                Move::Next
-            }
-            Err(trap) => Move::End(Ending::Trapped(trap)),
-        }
     }
 
     /// A call, where a turn is left.
@@ -208,7 +245,7 @@ impl Machine {
     }
 
     /// The end of a block.
-    fn finish(&mut self, p: &IlProgram, t: &Tables, routine: &Routine, end: &End) -> Move
+    fn finish(&mut self, p: &IlProgram, t: &Tables, routine: &Routine, end: &End) -> Option<Move>
         requires valid { IsProgram p.now }
         requires tabled { IsTabled p.now t.now }
         requires sound { IsSound p.now t.now self.old }
@@ -216,56 +253,56 @@ impl Machine {
         requires few { blocks_size routine.now.blocks ≤ max_size }
         requires done { length (block_in (routine_in p.now self.old.routine) self.old.block).instrs ≤ self.old.instr }
         requires end { end.now ≡ (block_in (routine_in p.now self.old.routine) self.old.block).end }
-        ensures { Moved p.now t.now self.old self.new result }
+        ensures { Steps p.now t.now self.old self.new result }
     {
         match end {
             End::Jump(u) => {
                 self.block = *u;
                 self.instr = 0;
-                Move::Next
+                None
             }
             End::Branch(x, u, v) => {
                 let c = self.store.reg(*x);
                 self.instr = 0;
                 if c == 0 {
                     self.block = *v;
-                    return Move::Next;
+                    return None;
                 }
                 self.block = *u;
-                Move::Next
+                None
             }
             End::Loop(u) => {
                 if self.turns == 0 {
-                    return Move::End(Ending::OutOfTurns);
+                    return Some(Move::End(Ending::OutOfTurns));
                 }
                 self.turns -= 1;
                 self.block = *u;
                 self.instr = 0;
-                Move::Next
+                None
             }
             End::Return(x) => {
                 let v = self.store.value(routine, *x);
                 self.give(p, t, v)
             }
-            End::Exit(x) => Move::End(Ending::Exit(Word(self.store.reg(*x)))),
+            End::Exit(x) => Some(Move::End(Ending::Exit(Word(self.store.reg(*x))))),
         }
     }
 
     /// The current call returns a word.
-    fn give(&mut self, p: &IlProgram, t: &Tables, v: u32) -> Move
+    fn give(&mut self, p: &IlProgram, t: &Tables, v: u32) -> Option<Move>
         requires tabled { IsTabled p.now t.now }
         requires sound { IsSound p.now t.now self.old }
         requires returns { Returning p.now self.old v }
-        ensures { Moved p.now t.now self.old self.new result }
+        ensures { Steps p.now t.now self.old self.new result }
     {
         let Some(waiting) = self.stack.pop() else {
-            return Move::End(Ending::Exit(Word(v)));
+            return Some(Move::End(Ending::Exit(Word(v))));
         };
         self.store.leave(waiting.at_regs, waiting.at_elements);
         self.store.receive(waiting.dest, v);
         self.routine = waiting.routine;
         self.block = waiting.block;
         self.instr = waiting.instr;
-        Move::Next
+        None
     }
 }

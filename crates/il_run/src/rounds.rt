@@ -203,7 +203,7 @@ impl Ready {
     }
 }
 
-/// One step of a machine, with what it asks of the outside.
+/// A machine runs on to what it asks for next, and gets it.
 fn round<I: Source, O: Sink>(
     p: &IlProgram,
     t: &Tables,
@@ -222,7 +222,7 @@ fn round<I: Source, O: Sink>(
     requires counter { IfSome counter.old (λ c. IsCounter p.now c) }
     ensures counter { StillCounts p.now counter.old counter.new }
     ensures over { IfOk result (λ o. IfSome o (λ _. counter.new ≡ counter.old)) }
-    ensures asked { AsksAtGet p.now machine.old given.old (I.left input.old) (I.left input.new) (I.asks input.old) (I.asks input.new) }
+    ensures asked { AsksAtGet p.now t.now machine.old given.old (I.left input.old) (I.left input.new) (I.asks input.old) (I.asks input.new) }
     ensures fits { IsAhead given.new }
     ensures ended { given.new.ended ≡ true → IsAtEnd (I.left input.new) }
     ensures moved { IfOk result (λ o. MatchOption o
@@ -231,13 +231,12 @@ fn round<I: Source, O: Sink>(
     ensures front { GainsFront (O.taken out.old) (O.taken out.new) pending.old.bytes.items }
     ensures cause { IfErr result (λ f. HasReason f (I.faults input.old) (I.faults input.new) (O.faults out.old) (O.faults out.new)) }
     ensures shut { given.old.ended ≡ true → given.new.ended ≡ true }
-    ensures wanted { result ≡ Err RunFault.Input → FailedAsk p.now machine.old given.old given.new (prepend_known (ahead given.old) (I.left input.old)) (prepend_known (ahead given.new) (I.left input.new)) }
+    ensures wanted { result ≡ Err RunFault.Input → FailedAsk p.now t.now machine.old given.old given.new (prepend_known (ahead given.old) (I.left input.old)) (prepend_known (ahead given.new) (I.left input.new)) }
     ensures asks { (start : Option (List Ask)) → AsksSo start (I.asks input.old) given.old.ended → MatchResult result (λ _. AsksSo start (I.asks input.new) given.new.ended) (λ _. AsksInTurn start (I.asks input.new)) }
     ensures input_later { I.faults input.old ≤ I.faults input.new }
     ensures output_later { O.faults out.old ≤ O.faults out.new }
 {
     match machine.advance(p, t)? {
-        Move::Next => Ok(None),
         Move::Called => {
             note_call(counter, p, machine);
             Ok(None)

@@ -1,12 +1,12 @@
 //! The words of a running program: registers, local arrays and objects.
-ghost use Rattle.std.specs.Prelude.{◌≡◌, ◌+◌, ◌-◌, ◌<◌, ◌≤◌, ◌++◌, ⊤, length, replicate, slice_index, sum, IfOk, OnOk, MatchOption};
+ghost use Rattle.std.specs.Prelude.{◌≡◌, ◌+◌, ◌-◌, ◌<◌, ◌≤◌, ◌++◌, ⊤, length, replicate, slice_index, sum, IfOk, OnOk, MatchBool, MatchOption};
 ghost use Rattle.std.specs.List.{AllByRecursion};
 ghost use Rattle.il_core.specs.Meaning.{returned};
 ghost use Rattle.il_core.specs.Valid.{IsRegIfSome};
 ghost use Rattle.il_core.specs.World.{each};
 ghost use Rattle.il_run.specs.Frames.{Enters, Leaves, Receives};
 ghost use Rattle.il_run.specs.Words.{AreStarts, Zeroed, start_of};
-ghost use Rattle.il_run.specs.Plain.{Executes, Fits, Clears, frame_in, Holds, SetsElement, SetsReg, SetsWord};
+ghost use Rattle.il_run.specs.Plain.{Executes, Fits, Clears, frame_in, Holds, IsPlain, SetsElement, SetsReg, SetsWord};
 
 use crate::layout::Layout;
 use hlo_num::{Trap, Word, binary, convert};
@@ -222,6 +222,17 @@ impl Store {
             }
             _ => Ok(()),
         }
+    }
+}
+
+/// Whether an instruction neither calls nor takes a turn nor meets the outside.
+#[inline]
+pub fn is_plain(instr: &Instr) -> bool
+    ensures { MatchBool result (IsPlain instr.now) (IsPlain instr.now → ⊥) }
+{
+    match instr {
+        Instr::Turn | Instr::Call { .. } | Instr::GetChar(_) | Instr::PutChar(_, _) => false,
+        _ => true,
     }
 }
 

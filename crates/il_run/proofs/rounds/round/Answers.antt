@@ -1,9 +1,6 @@
-use Rattle.il_run.proofs.OneRound.{call_round, next_round, get_round, put_round}
+use Rattle.il_run.proofs.OneRound.{call_round, get_round, put_round}
 use Rattle.il_run.proofs.Asking.{asks_turn, when_err}
 use Rattle.il_run.proofs.rounds.round.Goals as goal
-
-pub returns-in-Next-clause-moved : goal.returns-in-Next-clause-moved
-returns-in-Next-clause-moved g c = next_round _ _ _ _ _ _ _ _ (rw c.in-Next.is at c.in_ok-advance.ensures) c.requires.counter
 
 pub returns-in-Ok-clause-moved : goal.returns-in-Ok-clause-moved
 returns-in-Ok-clause-moved g c = get_round _ _ c.requires.tabled _ c.advance.new.self c.set.new.self _ _ _ _ _ c.in-Get.d c.word_of.result c.in-Ok.byte c.requires.counter c.in-Ok.ensures.end (rw c.in-Get.is at c.in_ok-advance.ensures) c.set.ensures c.word_of.ensures c.in-Ok.ensures.gives

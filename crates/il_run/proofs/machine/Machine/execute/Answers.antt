@@ -1,6 +1,4 @@
-use Rattle.std.proofs.Common.{subst, sym}
 use Rattle.il_run.proofs.Steps.{fits, plain_else}
-use Rattle.il_run.specs.Plain.{Fits}
 use Rattle.il_run.proofs.machine.Machine.execute.Goals as goal
 
 pub get-requires-clause-reg : goal.get-requires-clause-reg
@@ -12,12 +10,5 @@ put-requires-clause-reg c = (rw c.in-PutChar.is at (fits _ c.requires.valid _ c.
 pub put-requires-clause-source : goal.put-requires-clause-source
 put-requires-clause-source c = (rw c.in-PutChar.is at (fits _ c.requires.valid _ c.requires.tabled _ c.requires.sound c.args.instr.now c.requires.next)).1
 
-pub plain-requires : goal.plain-requires
-plain-requires c = record {
-  tabled = c.requires.tabled;
-  sound = c.requires.sound;
-  routine = c.requires.routine;
-  next = c.requires.next;
-  plain = plain_else c.args.instr.now c.in_default.not-Turn c.in_default.not-Call c.in_default.not-GetChar c.in_default.not-PutChar;
-  fits = subst (λ r. Fits r c.args.t.now.objects.sizes.items c.args.instr.now) (sym c.requires.routine) (fits _ c.requires.valid _ c.requires.tabled _ c.requires.sound c.args.instr.now c.requires.next);
-}
+pub unreachable-requires : goal.unreachable-requires
+unreachable-requires c = c.requires.special (plain_else c.args.instr.now c.in_default.not-Turn c.in_default.not-Call c.in_default.not-GetChar c.in_default.not-PutChar)

@@ -31,7 +31,7 @@ rounds-preserved g c =
       at_end = c.round-ended.ensures.ended;
       told = told_map _ _ _ c.rounds.invariant.told (λ bytes h. round_holds _ _ _ _ _ _ _ _ _ _ _ _ _ _ bytes _ h moved c.round-ended.ensures.front);
       using_so = λ e. told_map _ _ _ (c.rounds.invariant.using_so (still_open _ _ c.round-ended.ensures.shut e)) (λ bytes h. round_uses _ _ _ _ _ _ _ _ bytes h (moved.uses e));
-      placed = told_both _ _ _ _ _ c.rounds.invariant.placed c.rounds.invariant.using_so (λ bytes h u. placed_more _ _ bytes _ _ _ _ _ _ _ _ c.rounds.invariant.tabled c.rounds.invariant.sound u h c.round-ended.ensures.asked);
+      placed = told_both _ _ _ _ _ c.rounds.invariant.placed c.rounds.invariant.using_so (λ bytes h u. placed_more _ _ bytes _ _ _ _ _ _ _ _ c.rounds.invariant.tabled u h c.round-ended.ensures.asked);
       counter = still_counter _ _ _ c.rounds.invariant.counter c.round-ended.ensures.counter;
       still = still_more _ _ _ _ c.rounds.invariant.still c.round-ended.ensures.counter;
       asks = rw c.in-Ok.is at (c.round-ended.ensures.asks _ c.rounds.invariant.asks);
@@ -59,7 +59,7 @@ returns-in-Err-clause-asks g c = rw c.in-Err.is at (c.round-ended.ensures.asks _
 pub returns-in-Err-clause-wanted : goal.returns-in-Err-clause-wanted
 returns-in-Err-clause-wanted g c = λ e.
     let f = c.round-ended.ensures.wanted (c.in-Err.is ∙ same_fault c.in-Err.fault _ e) in
-    told_map _ _ _ (c.rounds.invariant.using_so f.at.open_yet) (λ bytes h. round_wants _ _ _ _ _ _ _ _ bytes c.rounds.invariant.tabled c.rounds.invariant.sound h f)
+    told_map _ _ _ (c.rounds.invariant.using_so f.at.open_yet) (λ bytes h. round_wants _ _ _ _ _ _ _ _ bytes c.rounds.invariant.tabled h f)
 
 pub returns-in-Some-clause-counted : goal.returns-in-Some-clause-counted
 returns-in-Some-clause-counted g c =
@@ -74,7 +74,7 @@ pub returns-in-Err-clause-counter : goal.returns-in-Err-clause-counter
 returns-in-Err-clause-counter g c = still_more _ _ _ _ c.rounds.invariant.still c.round-ended.ensures.counter
 
 pub returns-in-Some-clause-asks_wanted : goal.returns-in-Some-clause-asks_wanted
-returns-in-Some-clause-asks_wanted g c = told_both _ _ _ _ _ c.rounds.invariant.placed c.rounds.invariant.using_so (λ bytes h u. placed_all _ _ _ _ _ bytes (placed_more _ _ bytes _ _ _ _ _ _ _ _ c.rounds.invariant.tabled c.rounds.invariant.sound u h c.round-ended.ensures.asked))
+returns-in-Some-clause-asks_wanted g c = told_both _ _ _ _ _ c.rounds.invariant.placed c.rounds.invariant.using_so (λ bytes h u. placed_all _ _ _ _ _ bytes (placed_more _ _ bytes _ _ _ _ _ _ _ _ c.rounds.invariant.tabled u h c.round-ended.ensures.asked))
 
 pub returns-in-Err-clause-asks_wanted : goal.returns-in-Err-clause-asks_wanted
-returns-in-Err-clause-asks_wanted g c = told_both _ _ _ _ _ c.rounds.invariant.placed c.rounds.invariant.using_so (λ bytes h u. placed_all _ _ _ _ _ bytes (placed_more _ _ bytes _ _ _ _ _ _ _ _ c.rounds.invariant.tabled c.rounds.invariant.sound u h c.round-ended.ensures.asked))
+returns-in-Err-clause-asks_wanted g c = told_both _ _ _ _ _ c.rounds.invariant.placed c.rounds.invariant.using_so (λ bytes h u. placed_all _ _ _ _ _ bytes (placed_more _ _ bytes _ _ _ _ _ _ _ _ c.rounds.invariant.tabled u h c.round-ended.ensures.asked))
