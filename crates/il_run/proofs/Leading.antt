@@ -1,5 +1,5 @@
 -- Going on, one step after another.
-use Rattle.std.proofs.Common.{◌≡◌, ℕ, suc, ◌+◌, ◌<◌, ◌≤◌, List, ◌∷◌, length, drop, get_or, refl, ap, subst, sym, ◌∙◌, arith, drop-cons}
+use Rattle.std.proofs.Common.{◌≡◌, ℕ, suc, ◌+◌, ◌<◌, List, ◌∷◌, length, drop, get_or, refl, ap, subst, sym, ◌∙◌, drop-cons}
 use Rattle.std.proofs.Math.Nat.{le_of_lt, le_refl, le_trans, lt_of_lt_of_le}
 use Rattle.std.proofs.lemmas.List.{get_or_read}
 use Rattle.std.specs.declared.alloc.AllocError.{AllocError}
