@@ -1,3 +1,4 @@
 pub mod Hands
 pub mod Loaders
 pub mod Turns
+pub mod Waves

@@ -63,3 +63,22 @@ pub record HoldsWrite {T B D : Type 0} (l : Paged T B D) (w : ℕ) (y : Option (
   pub stage : pool.stage ≡ stage.Written room
   pub others : HasBody l y
   pub apart : holds (pool_of y) p ≡ false
+
+-- the hand whose task is p, and the one that writes it too
+abbrev pub tasked : ℕ → Hand
+tasked p = record empty_hand { task = Some p }
+
+abbrev pub tasked_writer : ℕ → Hand
+tasked_writer p = record empty_hand { task = Some p; written = Some p }
+
+-- A wave whose one task is p is open: worker 0 has the hand h and the other one an empty one; these tasks are unclaimed
+-- and these are done.
+pub record InWave {T B D : Type 0} (l : Paged T B D) (p : ℕ) (h : Hand) (unclaimed done : List ℕ) : Type 0 where
+  pub hands : l.core.hands ≡ h ∷ empty_hand ∷ []
+  pub running : l.core.failure ≡ None
+  pub opened : l.core.in_wave ≡ true
+  pub tasks : l.core.tasks ≡ p ∷ []
+  pub left : l.core.unclaimed ≡ unclaimed
+  pub done_are : l.core.done ≡ done
+  pub disk : l.core.disk ≡ None
+  pub sound : IsSound l.core

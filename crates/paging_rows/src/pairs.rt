@@ -1,10 +1,11 @@
 //! The calls of two workers over one loader. A worker ends its move before the other one goes on, and an answer that isn't
 //! awaited ends the test.
-ghost use Rattle.std.specs.Prelude.{◌≡◌, ◌<◌, ◌≤◌, ◌+◌, ◌*◌, ℕ, length, true, false, None, Some, IsSome};
+ghost use Rattle.std.specs.Prelude.{◌≡◌, ◌<◌, ◌≤◌, ◌+◌, ◌*◌, [], ◌∷◌, ℕ, length, true, false, None, Some, IsSome};
 ghost use Rattle.std.specs.Arc.{arc_value};
 ghost use Rattle.std.specs.declared.alloc.Global.{Global as GlobalData};
 ghost use Rattle.std.specs.declared.sync.Arc.{Arc as ArcData};
-ghost use Rattle.naim_core.specs.State.{holds};
+ghost use Rattle.naim_core.specs.State.{empty_hand, holds, pool_at};
+ghost use Rattle.naim_core.specs.declared.pool.Pool.{Pool as PoolData};
 ghost use Rattle.naim_core.specs.declared.event.Mode.TheVariants as mode;
 ghost use Rattle.naim_core.specs.declared.pool.Stage.TheVariants as stage;
 ghost use Rattle.naim_loader.specs.Calls.{ComesBack, disk_of};
@@ -12,7 +13,7 @@ ghost use Rattle.naim_loader.specs.Contents.{StandsFor};
 ghost use Rattle.naim_loader.specs.Drafts.{IsDraft};
 ghost use Rattle.naim_loader.specs.Moves.{EndsReload, pid_of};
 ghost use Rattle.naim_loader.specs.Paged.{content_at, kept_at};
-ghost use Rattle.paging_rows.specs.Pairs.{HasBody, HoldsWrite, Moves, Stands, pool_of};
+ghost use Rattle.paging_rows.specs.Pairs.{HasBody, HoldsWrite, InWave, Moves, Stands, pool_of, tasked, tasked_writer};
 ghost use Rattle.repository.specs.Filing.{record_of};
 
 use naim_loader::{Draft, Evict, Loader, Move, Pin, PinAnswer, Put, ReadPin, WritePin};
@@ -389,6 +390,105 @@ fn end_write<T: Poolable + Drop, D: Disk + Drop>(
 {
     let _room = room;
     match pools.unpin_write(worker, pin, Draft::Whole(body), brief) {
+        Ok(Put::Done) => return,
+        _ => panic!(rt; "not written"),
+    }
+}
+
+/// A worker writes a pool that lies whole as the one task of a wave; the other worker has no pin.
+pub(crate) fn wave<T: Poolable + Drop, D: Disk + Drop>(
+    rt: &impl Abort,
+    alloc: Global,
+    pools: &mut Pools<T, D>,
+    worker: u32,
+    pid: u32,
+    body: T,
+    brief: u32,
+    other: &Option<ReadPin<T>>,
+)
+    requires worker { worker ≡ 0 }
+    requires other { other.now ≡ None }
+    requires stands { Stands pools.old worker None other.now }
+    requires present { IsSome (kept_at pools.old pid) }
+    ensures { Stands pools.new worker None other.now }
+{
+    let _worker = worker;
+    lone_wave(rt, alloc, pools, pid, body, brief);
+}
+
+/// Worker 0 writes a pool that lies whole as the one task of a wave.
+fn lone_wave<T: Poolable + Drop, D: Disk + Drop>(
+    rt: &impl Abort,
+    alloc: Global,
+    pools: &mut Pools<T, D>,
+    pid: u32,
+    body: T,
+    brief: u32,
+)
+    requires stands { Stands pools.old 0 None None }
+    requires present { IsSome (kept_at pools.old pid) }
+    ensures { Stands pools.new 0 None None }
+{
+    stands(pools);
+    let Ok(tasks) = vec![in alloc; pid] else {
+        panic!(rt; "no memory")
+    };
+    pools.begin_wave(tasks);
+    let Some(_) = pools.claim(0) else {
+        panic!(rt; "no task")
+    };
+    write_task(rt, alloc, pools, pid, body, brief);
+    pools.end_wave();
+}
+
+/// Worker 0 writes its task.
+fn write_task<T: Poolable + Drop, D: Disk + Drop>(
+    rt: &impl Abort,
+    alloc: Global,
+    pools: &mut Pools<T, D>,
+    pid: u32,
+    body: T,
+    brief: u32,
+)
+    requires wave { InWave pools.old pid (tasked pid) [] [] }
+    requires present { IsSome (pool_at pools.old.core.pools pid) }
+    ensures { InWave pools.new pid empty_hand [] (pid ∷ []) }
+{
+    let charge = body.charge();
+    if charge > 1000 {
+        panic!(rt; "a great charge");
+    }
+    let room = charge + u64::from(body.compact_len());
+    let Ok(body) = Arc::new(alloc, body) else {
+        panic!(rt; "no memory")
+    };
+    match pools.pin_write(0, pid, room) {
+        PinAnswer::Ready(Pin::Write(pin)) => {
+            end_task(rt, pools, pid, pin, body, room, brief);
+            return;
+        }
+        _ => panic!(rt; "not pinned"),
+    }
+}
+
+/// Ends the pin for writing of a task.
+fn end_task<T: Poolable + Drop, D: Disk + Drop>(
+    rt: &impl Abort,
+    pools: &mut Pools<T, D>,
+    pid: u32,
+    pin: WritePin<T>,
+    body: Arc<T, Global>,
+    room: u64,
+    brief: u32,
+)
+    requires pid { pin.pid ≡ pid }
+    requires wave { InWave pools.old pid (tasked_writer pid) [] [] }
+    requires pool { (x : PoolData) × (pool_at pools.old.core.pools pid ≡ Some x) × (x.stage ≡ stage.Written room) }
+    requires fits { T.charge_of (arc_value body) + length (T.encoding (arc_value body)) ≤ room }
+    ensures { InWave pools.new pid empty_hand [] (pid ∷ []) }
+{
+    let (_pid, _room) = (pid, room);
+    match pools.unpin_write(0, pin, Draft::Whole(body), brief) {
         Ok(Put::Done) => return,
         _ => panic!(rt; "not written"),
     }
