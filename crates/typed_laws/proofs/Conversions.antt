@@ -1,5 +1,5 @@
 -- The types to which operands are converted are those that operators ask for.
-use Rattle.std.proofs.Common.{◌≡◌, refl}
+use Rattle.std.proofs.Common.{refl}
 use Rattle.hlo_num.specs.declared.word.Ty.{Ty}
 use Rattle.hlo_num.specs.declared.word.Ty.TheVariants.{Char, UChar, Short, UShort, Int, UInt, Long, ULong}
 use Rattle.hlo_num.specs.Words.{promote, usual}

@@ -62,8 +62,8 @@ use Rattle.lower_laws.specs.Bound.{HasValue}
 use Rattle.program_laws.specs.Growing.{entity_in, entity_at}
 use Rattle.program_laws.proofs.Tables.{marked, marked_grows}
 use Rattle.typed_laws.specs.WellTyped.{Scope, IsVariable, IsArray, IsExpr, IsPlace, AreArguments, HasType, IsArm}
-use Rattle.typed_laws.proofs.Conversions.{common_promoted, unary_is, Sides, sides}
-use Rattle.typed_laws.proofs.Judging.{Any, Holds, DoesIf, Does, AllDo, step_beside, and_if, and, gives, breaks, knows, if_tests, choose, in_order_does, finds, binds, uses_pid, uses_tag, declares_tag}
+use Rattle.typed_laws.proofs.Conversions.{common_promoted, unary_is, sides}
+use Rattle.typed_laws.proofs.Judging.{Any, Holds, DoesIf, Does, AllDo, step_beside, and_if, and, gives, breaks, knows, if_tests, in_order_does, finds, binds, uses_pid, uses_tag, declares_tag}
 use Rattle.typed_laws.proofs.Names.{Final, scope, IsNamed, stays_same}
 
 -- the type of what an operator gives, by both definitions

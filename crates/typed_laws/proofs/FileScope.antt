@@ -1,5 +1,5 @@
 -- The rules of declarations at file scope keep names good: an object is bound as what the table has.
-use Rattle.std.proofs.Common.{◌≡◌, ℕ, ◌-◌, List, [], ◌∷◌, ◌++◌, Option, Some, None, Bool, true, false, length, refl, sym, ap, ◌∙◌, subst}
+use Rattle.std.proofs.Common.{◌≡◌, ℕ, ◌-◌, List, [], ◌∷◌, ◌++◌, Option, Some, None, Bool, true, false, length, refl, sym, subst}
 use Rattle.std.specs.Prelude.{if◌then◌else◌, ◌&&◌, ◌||◌, not, nat_lt, is_none, codes, ⊤}
 use Rattle.std.specs.Option.{unwrap_or}
 use Rattle.hlo_num.specs.declared.word.Ty.{Ty}
@@ -23,17 +23,16 @@ use Rattle.c_types.specs.declared.binding.Extent.{Extent}
 use Rattle.c_types.specs.declared.binding.Extent.TheVariants as extents
 use Rattle.c_types.specs.declared.binding.Library.TheVariants as library
 use Rattle.c_types.specs.declared.fault.TypeKind.TheVariants as kinds
-use Rattle.c_types.specs.declared.linkage.Linked.{Linked}
 use Rattle.c_types.specs.declared.specifiers.Specified.{Specified}
 use Rattle.c_types.specs.declared.specifiers.Storage.{Storage}
 use Rattle.c_types.specs.DeclarationRules as rules
 use Rattle.c_types.specs.Enumerations.{is_library}
 use Rattle.c_types.specs.Names.{bound_here, declare_new}
-use Rattle.c_types.specs.Rules.{Here, Reply, Rule}
+use Rattle.c_types.specs.Rules.{Here}
 use Rattle.c_types.specs.StatementRules.{is_length}
 use Rattle.program_laws.specs.Growing.{entity_at, IsMore}
-use Rattle.program_laws.proofs.Tables.{IsEntering, entering, place, place_number, entity_met, entity_here, said_here, entering_grows, more_then, grows_same, initialised_marked, marked_grows}
-use Rattle.typed_laws.proofs.Judging.{Any, Step, Holds, Does, DoesIf, step_beside, and, and_if, plain, gives, breaks, knows, changes, if_tests, choose, binds}
+use Rattle.program_laws.proofs.Tables.{IsEntering, entering, place_number, entity_met, entity_here, said_here, entering_grows, more_then, initialised_marked, marked_grows}
+use Rattle.typed_laws.proofs.Judging.{Any, Holds, Does, DoesIf, step_beside, and, and_if, gives, breaks, knows, changes, if_tests, choose, binds}
 use Rattle.typed_laws.proofs.Names.{Final, IsObject, IsNamed, stays_same}
 use Rattle.typed_laws.proofs.Statements.{constant_word_does, length_does, value_type_does}
 

@@ -1,6 +1,7 @@
 -- The parameters and the block of a definition: the function that the rules give is well typed.
 use Rattle.std.proofs.Common.{◌≡◌, ◌≤◌, ℕ, suc, ◌+◌, ◌-◌, List, [], ◌∷◌, ◌++◌, map, Option, Some, None, Bool, true, false, length, refl, sym, ap, ap₂, ◌∙◌, subst, arith, slice_get}
 use Rattle.std.specs.Prelude.{if◌then◌else◌, ◌==◌, not, is_none, ⊤}
+use Rattle.std.proofs.lemmas.List.{append-nil}
 use Rattle.hlo_num.specs.declared.word.Ty.{Ty}
 use Rattle.sym_tables.specs.declared.entity.Entity.TheVariants as entities
 use Rattle.sym_tables.specs.declared.symbol.Standing.TheVariants as standings
@@ -28,13 +29,12 @@ use Rattle.c_types.specs.declared.specifiers.Site.TheVariants as sites
 use Rattle.c_types.specs.declared.specifiers.Specified.{Specified}
 use Rattle.c_types.specs.declared.statements.Around.{Around}
 use Rattle.c_types.specs.DeclarationRules as rules
-use Rattle.c_types.specs.DeclarationRules.{link, parameters, parameters_from, declare_parameter, parameter_line, unnamed_parameter, type_or_none}
+use Rattle.c_types.specs.DeclarationRules.{parameters, parameters_from, declare_parameter, parameter_line, unnamed_parameter, type_or_none}
 use Rattle.c_types.specs.Enumerations.{is_library}
-use Rattle.c_types.specs.ExpressionRules.{specifying}
-use Rattle.c_types.specs.Names.{enter, leave, bind, scoped}
-use Rattle.c_types.specs.Rules.{Here, Reply, Gives, Breaks, Rule, ◌>>=◌, ◌>>◌, followed, give, known, change, unless}
+use Rattle.c_types.specs.Names.{enter, leave, scoped}
+use Rattle.c_types.specs.Rules.{Here, Reply, Gives, Breaks, Rule, ◌>>=◌, ◌>>◌, followed, give, known, change}
 use Rattle.c_types.specs.Scopes.{Declared, outer, inner}
-use Rattle.c_types.specs.StatementRules.{blocking, declares, value_type}
+use Rattle.c_types.specs.StatementRules.{blocking, declares}
 use Rattle.c_types.specs.Typing as typing
 use Rattle.c_types.specs.Typing.{Aside, aside, resume, named_parameter, named_parameters}
 use Rattle.type_laws.proofs.Functions.{bodied, fronted, inner_within, outer_inner, within_append}
@@ -43,7 +43,7 @@ use Rattle.type_laws.proofs.Keeping.{AreWithin}
 use Rattle.program_laws.specs.Growing.{entity_at}
 use Rattle.typed_laws.specs.WellTyped.{IsStmt, scope_of, types_of}
 use Rattle.typed_laws.proofs.FileScope.{declares_new, link_does, declare_function_does, no_initialiser_does, file_object_does}
-use Rattle.typed_laws.proofs.Judging.{Any, Step, Holds, Does, DoesIf, step_none, step_then, less, plain, and, and_if, gives, breaks, if_tests, tests, choose, binds}
+use Rattle.typed_laws.proofs.Judging.{Any, Step, Holds, Does, DoesIf, step_none, step_then, less, plain, and, and_if, gives, breaks, if_tests, tests, binds}
 use Rattle.typed_laws.proofs.Names.{Final, IsNamed, AreNamed, IsSound, Stays, sound_behind, stays_same, stays_then, sound_entered, stays_left, Before}
 use Rattle.typed_laws.proofs.Statements.{value_type_does, whole, around, AreStatements, blocking_does}
 use Rattle.typed_laws.proofs.Typings.{specifying_does}
@@ -287,10 +287,6 @@ module _ (table : Table) where
       and (at_file table) (named_parameter_does ty p.specifiers.line p.name) (λ x. and_if (at_file table) (named_parameters_do types ps) (λ xs.
       gives (at_file table) (x ∷ xs) (λ g le. ap₂ (λ t ts. t ∷ ts) g.0.1 (g.1 (omega (arith, le))))))
 
-  append_none : (xs : List Local) → xs ≡ xs ++ []
-  append_none [] = refl
-  append_none (x ∷ xs) = ap (λ l. x ∷ l) (append_none xs)
-
   -- what is known in front of a block
   record IsHead (depth pid : ℕ) (result : Option Ty) (params : List TypedParameter) (types : List Ty) (names : Aside) : Type 0 where
     pub aside : IsAside types (depth + 1) names.names
@@ -343,12 +339,12 @@ module _ (table : Table) where
       go h at (Gives body g) all =
           let one = all g.locals in (
             record {
-              before = λ b. (tt, (one.0.before (([], append_none g.locals), b.1)).1);
+              before = λ b. (tt, (one.0.before (([], sym (append-nil g.locals)), b.1)).1);
               depth = omega (arith, one.0.depth);
               seen = one.0.seen;
             },
             λ before head sound.
-                let two = one.1 (([], append_none g.locals), before.1) tt (sound_begun h g.locals at head.aside sound) in
+                let two = one.1 (([], sym (append-nil g.locals)), before.1) tt (sound_begun h g.locals at head.aside sound) in
                 let stays : Stays (whole types g.locals table) (begun h) (record g { locals = [] }) = record {
                   named = two.0.named;
                   within = two.0.within;

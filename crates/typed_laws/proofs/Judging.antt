@@ -1,10 +1,10 @@
 -- What a rule does that lays no label of the switch around it: where it gives a value, the state behind has what the state in
 -- front had, and where the final locals and table come from the state behind, good names stay good and the value is good. One
 -- lemma for each way to put rules together. `G` is what is known of the values that were given before.
-use Rattle.std.proofs.Common.{◌≡◌, ℕ, ◌+◌, ◌-◌, Bool, true, false, List, [], ◌∷◌, ◌++◌, Option, Some, None, refl, sym, ap, ap₂, ◌∙◌, subst, arith}
+use Rattle.std.proofs.Common.{◌≡◌, ℕ, ◌+◌, ◌-◌, Bool, true, false, List, [], ◌∷◌, Option, Some, None, refl, ap₂, ◌∙◌, subst, arith}
 use Rattle.std.specs.Prelude.{if◌then◌else◌, ⊤, is_some, is_none}
 use Rattle.std.specs.Option.{option_map}
-use Rattle.sym_tables.specs.Table.{Table, mark}
+use Rattle.sym_tables.specs.Table.{mark}
 use Rattle.c_tree.specs.declared.expression.Identifier.{Identifier}
 use Rattle.c_typed.specs.declared.statement.Label.{Label}
 use Rattle.c_types.specs.declared.binding.Binding.{Binding}

@@ -1,7 +1,7 @@
 -- What a rule does that lays labels of the switch around it: as in `Judging`, and the labels that it lays weren't there before,
 -- are there behind it, and differ. One lemma for each way to put such rules together, and with rules that lay none.
 use Rattle.std.proofs.Common.{◌≡◌, ◌≢◌, ℕ, Bool, true, false, List, [], ◌∷◌, ◌++◌, refl, sym, ap, ◌∙◌, subst}
-use Rattle.std.specs.Prelude.{if◌then◌else◌, ◌==◌, ◌||◌, not, nat_eq, ⊤}
+use Rattle.std.specs.Prelude.{◌==◌, ◌||◌, not, ⊤}
 use Rattle.std.specs.List.{AllByRecursion, list_any}
 use Rattle.std.proofs.lemmas.Bool.{true≢false, false≢true, eq-eqb}
 use Rattle.c_typed.specs.declared.statement.Label.{Label}
@@ -13,17 +13,10 @@ use Rattle.c_types.specs.StatementRules.{labelling, new_case, new_default}
 use Rattle.typed_laws.specs.WellTyped.{AreApart}
 use Rattle.typed_laws.proofs.Judging as judging
 use Rattle.typed_laws.proofs.Judging.{Step, DoesIf, Does}
+use Rattle.typed_laws.proofs.Lists.{all_map, all_append}
 use Rattle.typed_laws.proofs.Names.{Final, IsSound, Stays, sound_behind, stays_same, stays_then, sound_entered, stays_left, Before, has_label, is_seen}
 
--- ## Lists of labels
-
-all_map : (P Q : Label → Type 0) → ((l : Label) → P l → Q l) → (ls : List Label) → AllByRecursion P ls → AllByRecursion Q ls
-all_map P Q to [] ok = tt
-all_map P Q to (l ∷ ls) ok = (to l ok.0, all_map P Q to ls ok.1)
-
-all_append : (P : Label → Type 0) (xs ys : List Label) → AllByRecursion P xs → AllByRecursion P ys → AllByRecursion P (xs ++ ys)
-all_append P [] ys p q = q
-all_append P (x ∷ xs) ys p q = (p.0, all_append P xs ys p.1 q)
+-- ## Labels
 
 -- labels that a state has differ from labels that it hasn't
 apart_append : (h : Here) (xs ys : List Label) → AllByRecursion (λ l. is_seen l h ≡ true) xs → AllByRecursion (λ l. is_seen l h ≡ false) ys

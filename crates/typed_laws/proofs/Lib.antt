@@ -5,6 +5,7 @@ mod Functions
 mod Growing
 mod Judging
 mod Laying
+mod Lists
 pub mod Modules
 mod Names
 mod Samples

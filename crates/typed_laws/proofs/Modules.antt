@@ -1,8 +1,9 @@
 -- Modules: each function that the typing rules give is well typed.
-use Rattle.std.proofs.Common.{◌≡◌, ℕ, suc, List, [], ◌∷◌, ◌++◌, ◌<◌, map, Option, Some, None, Bool, true, false, refl, sym, ap, ◌∙◌, subst, arith}
+use Rattle.std.proofs.Common.{◌≡◌, ℕ, suc, List, [], ◌∷◌, ◌++◌, ◌<◌, map, Some, None, Bool, true, false, refl, sym, subst, arith}
 use Rattle.std.specs.Prelude.{if◌then◌else◌, is_none, codes, ⊤}
 use Rattle.std.specs.List.{AllByRecursion}
 use Rattle.std.proofs.lemmas.Bool.{true≢false}
+use Rattle.std.proofs.lemmas.List.{append-nil}
 use Rattle.sym_tables.specs.declared.entity.Entity.{Entity}
 use Rattle.sym_tables.specs.declared.entity.Entity.TheVariants as entities
 use Rattle.sym_tables.specs.declared.symbol.Standing.{Standing}
@@ -25,7 +26,7 @@ use Rattle.c_types.specs.declared.binding.Library.TheVariants as library
 use Rattle.c_types.specs.declared.checker.Awaited.{Awaited}
 use Rattle.c_types.specs.declared.fault.TypeKind.TheVariants as kinds
 use Rattle.c_types.specs.Names.{bound_here, bind}
-use Rattle.c_types.specs.Rules.{Here, Reply, Gives}
+use Rattle.c_types.specs.Rules.{Here, Gives}
 use Rattle.c_types.specs.Typing as rules
 use Rattle.c_types.specs.Typing.{start}
 use Rattle.lower_laws.specs.Bound.{IsBound}
@@ -40,6 +41,7 @@ use Rattle.typed_laws.specs.WellTyped.{IsWellTyped}
 use Rattle.typed_laws.proofs.Functions.{at_file, IsWell, file_declaration_does, function_does}
 use Rattle.typed_laws.proofs.Growing.{well_typed_stays}
 use Rattle.typed_laws.proofs.Judging.{Any, Step, Holds, Does, DoesIf, step_then, and, plain, gives, knows, changes, if_tests}
+use Rattle.typed_laws.proofs.Lists.{all_map, all_append}
 use Rattle.typed_laws.proofs.Names.{IsNamed, IsSound, Stays, sound_behind, stays_same, stays_then, stays_bound}
 
 module _ (table : Table) where
@@ -132,18 +134,6 @@ typed_modules_are_well_typed number m old t h e =
 
 -- ## Modules one after another
 
-all_stay : (old new : Table) → Grows old new → (fs : List Function) → AllByRecursion (IsWellTyped old) fs → AllByRecursion (IsWellTyped new) fs
-all_stay old new g [] ok = tt
-all_stay old new g (f ∷ fs) ok = (well_typed_stays old new g f ok.0, all_stay old new g fs ok.1)
-
-all_append : (P : Function → Type 0) (xs ys : List Function) → AllByRecursion P xs → AllByRecursion P ys → AllByRecursion P (xs ++ ys)
-all_append P [] ys p q = q
-all_append P (x ∷ xs) ys p q = (p.0, all_append P xs ys p.1 q)
-
-append_none : (xs : List Function) → xs ++ [] ≡ xs
-append_none [] = refl
-append_none (x ∷ xs) = ap (λ l. x ∷ l) (append_none xs)
-
 functions_well : (number : ℕ) (modules : List Module) (ts : List TypedModule) (old new : Table) → AreTypedAs number old modules ts new
     → AllByRecursion (IsWellTyped new) (functions_of ts) × Grows old new
 functions_well number [] [] old new typed = (tt, subst (λ x. Grows old x) (sym typed) (grows_same old))
@@ -153,8 +143,8 @@ functions_well number (m ∷ modules) (t ∷ ts) old new typed =
     let one = typed_modules_are_well_typed number m old t typed.0 typed.1 in
     let rest = functions_well (suc number) modules ts typed.0.syms new typed.2 in (
       all_append (IsWellTyped new) (map function_of t.functions) (functions_of ts)
-          (subst (λ l. AllByRecursion (IsWellTyped new) l) (append_none (map function_of t.functions))
-          (all_stay typed.0.syms new rest.1 (functions_of (t ∷ [])) one.0))
+          (subst (λ l. AllByRecursion (IsWellTyped new) l) (append-nil (map function_of t.functions))
+          (all_map (IsWellTyped typed.0.syms) (IsWellTyped new) (well_typed_stays typed.0.syms new rest.1) (functions_of (t ∷ [])) one.0))
           rest.0,
       grows_then old typed.0.syms new one.1 rest.1,
     )

@@ -1,6 +1,6 @@
 -- What a function's names stand for in the end: the types of its parameters, its locals, and the table. A name in scope is
 -- good where its binding is what they say.
-use Rattle.std.proofs.Common.{◌≡◌, ◌≤◌, ℕ, ◌+◌, ◌-◌, Bool, true, false, List, [], ◌∷◌, ◌++◌, Option, Some, None, refl, sym, ap, ap₂, ◌∙◌, subst, arith}
+use Rattle.std.proofs.Common.{◌≡◌, ℕ, ◌+◌, ◌-◌, Bool, true, false, List, [], ◌∷◌, ◌++◌, Option, Some, None, refl, sym, ap, ap₂, ◌∙◌, subst, arith}
 use Rattle.std.specs.Prelude.{if◌then◌else◌, ◌==◌, is_some, slice_get, ⊤}
 use Rattle.std.specs.List.{list_any}
 use Rattle.hlo_num.specs.declared.word.Ty.{Ty}

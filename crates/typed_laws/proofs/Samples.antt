@@ -1,13 +1,12 @@
 -- Typed trees that the rules give, computed; and trees that aren't well typed, each with one conversion, type or label wrong.
-use Rattle.std.proofs.Common.{◌≡◌, ◌≢◌, ℕ, ℤ, true, false, List, [], ◌∷◌, Option, Some, None, refl, sym, ap, ◌∙◌, subst}
+use Rattle.std.proofs.Common.{◌≡◌, ℕ, ℤ, true, false, List, [], ◌∷◌, Some, None, refl, sym, ap, ◌∙◌, subst}
 use Rattle.std.specs.Prelude.{codes, if◌then◌else◌}
 use Rattle.hlo_num.specs.declared.word.Ty.{Ty}
-use Rattle.hlo_num.specs.declared.word.Ty.TheVariants.{Char, UChar, Short, Int, UInt, Long, ULong}
+use Rattle.hlo_num.specs.declared.word.Ty.TheVariants.{Char, Int, UInt}
 use Rattle.sym_tables.specs.declared.entity.Entity.TheVariants as entities
 use Rattle.sym_tables.specs.declared.symbol.Standing.TheVariants as standings
 use Rattle.sym_tables.specs.Table.{Table}
 use Rattle.c_tree.specs.declared.expression.BinaryOp.TheVariants as written
-use Rattle.c_tree.specs.declared.expression.Identifier.{Identifier}
 use Rattle.c_tree.specs.declared.expression.Expr.{roll-Expr}
 use Rattle.c_tree.specs.declared.expression.Expr.TheOpen.{Expr-F}
 use Rattle.c_tree.specs.declared.expression.Expr.TheFolds.{fold-roll-Expr}
@@ -20,8 +19,7 @@ use Rattle.c_typed.specs.declared.expression.TypedExpr.{TypedExpr, roll-TypedExp
 use Rattle.c_typed.specs.declared.expression.Variable.TheVariants as variables
 use Rattle.c_typed.specs.declared.statement.Label.{Label}
 use Rattle.c_typed.specs.declared.statement.Label.TheVariants as labels
-use Rattle.c_typed.specs.Trees.{Expr, Scalar, Constant, Read, Convert, Discard, Binary, Conditional, Assign, Call, Argument, None as no_more, Return, Switch, Section, End, Empty, Break}
-use Rattle.c_types.specs.declared.binding.Binding.{Binding}
+use Rattle.c_typed.specs.Trees.{Expr, Scalar, Constant, Read, Convert, Binary, Conditional, Assign, Call, Argument, None as no_more, Return, Switch, Section, End, Break}
 use Rattle.c_types.specs.declared.binding.Binding.TheVariants as bindings
 use Rattle.c_types.specs.declared.binding.Extent.TheVariants as extents
 use Rattle.c_types.specs.declared.conversion.Typed.{Typed}

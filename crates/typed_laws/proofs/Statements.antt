@@ -1,7 +1,6 @@
 -- Each rule of statements makes well-typed trees: one term for each form.
-use Rattle.std.proofs.Common.{◌≡◌, ℕ, List, [], ◌∷◌, ◌++◌, map, Option, Some, None, Bool, true, false, length, refl, sym, ap, ap₂, ◌∙◌, subst, slice_get}
-use Rattle.std.specs.Prelude.{not, is_some, is_none, ⊤}
-use Rattle.std.proofs.lemmas.List.{append_assoc}
+use Rattle.std.proofs.Common.{◌≡◌, ℕ, List, [], ◌∷◌, ◌++◌, map, Option, Some, None, length, refl, sym, ap, ap₂, ◌∙◌, subst, slice_get}
+use Rattle.std.specs.Prelude.{not, is_none, ⊤}
 use Rattle.hlo_num.specs.declared.word.Ty.{Ty}
 use Rattle.hlo_num.specs.Words.{convert, promote}
 use Rattle.sym_tables.specs.Table.{Table}
@@ -17,7 +16,6 @@ use Rattle.c_tree.specs.declared.statement.Stmt.TheFolds.{ind-Block, fold-roll-S
 use Rattle.c_tree.specs.declared.statement.Stmt.{Stmt, roll-Stmt, map-Stmt}
 use Rattle.c_tree.specs.declared.statement.Block.{Block, roll-Block, map-Block}
 use Rattle.c_typed.specs.declared.expression.TypedExpr.{TypedExpr}
-use Rattle.c_typed.specs.declared.expression.Variable.TheVariants as variables
 use Rattle.c_typed.specs.declared.function.Local.{Local}
 use Rattle.c_typed.specs.declared.statement.Label.{Label}
 use Rattle.c_typed.specs.declared.statement.Label.TheVariants as labels
@@ -38,17 +36,19 @@ use Rattle.c_types.specs.declared.statements.Around.{Around}
 use Rattle.c_types.specs.declared.statements.ForHead.{ForHead}
 use Rattle.c_types.specs.Conversions.{converted}
 use Rattle.c_types.specs.ExpressionRules.{typing, valued}
-use Rattle.c_types.specs.Names.{bound_here, bind}
-use Rattle.c_types.specs.Rules.{Here, ◌>>=◌, give}
+use Rattle.c_types.specs.Names.{bound_here}
+use Rattle.c_types.specs.Rules.{◌>>=◌, give}
 use Rattle.c_types.specs.StatementRules as rules
 use Rattle.c_types.specs.StatementRules.{Ruled, Blocked, Labelled}
 use Rattle.lower_laws.specs.Bound.{HasValue}
+use Rattle.list_laws.proofs.Elements.{onto}
+use Rattle.type_laws.proofs.Going.{slice_next}
 use Rattle.typed_laws.specs.WellTyped as well
 use Rattle.typed_laws.specs.WellTyped.{Scope, HasType, IsExpr, IsOptional, IsOptionalValue, IsStmt, AreSections, AreApart, labels_of}
 use Rattle.typed_laws.proofs.Conversions.{promoted}
-use Rattle.typed_laws.proofs.Expressions.{IsTyped, IsValued, has_value, converted_is, valued_does, constant_valued_does, word_does}
-use Rattle.typed_laws.proofs.Judging.{Any, Does, DoesIf, and, and_if, from, plain, gives, breaks, knows, if_tests, binds, scoped_does}
-use Rattle.typed_laws.proofs.Laying.{Lays, LaysIf, IsOne, quiet, quiet_and, lays_and, lays_map, scoped_lays, labelling_does, new_case_lays, new_default_lays}
+use Rattle.typed_laws.proofs.Expressions.{IsValued, has_value, converted_is, valued_does, constant_valued_does, word_does}
+use Rattle.typed_laws.proofs.Judging.{Any, Does, DoesIf, and, and_if, plain, gives, breaks, knows, if_tests, binds, scoped_does}
+use Rattle.typed_laws.proofs.Laying.{Lays, quiet, quiet_and, lays_and, lays_map, scoped_lays, labelling_does, new_case_lays, new_default_lays}
 use Rattle.typed_laws.proofs.Names.{Final, scope, HasLength, stays_same}
 use Rattle.typed_laws.proofs.Typings.{typing_does, specifying_does}
 
@@ -167,24 +167,17 @@ module _ (params : List Ty) (final : List Local) (table : Table) where
   abbrev IsThere : Local → ℕ → Type 0
   IsThere local place = slice_get final place ≡ Some local
 
-  append_one : (xs : List Local) (x : Local) (ys : List Local) → (xs ++ x ∷ []) ++ ys ≡ xs ++ x ∷ ys
-  append_one xs x ys = append_assoc xs (x ∷ []) ys
-
-  slice_next : (xs rest : List Local) (x : Local) → slice_get (xs ++ x ∷ rest) (length xs) ≡ Some x
-  slice_next [] rest x = refl
-  slice_next (y ∷ xs) rest x = slice_next xs rest x
-
   new_local_does : (local : Local) → Does whole (IsThere local) (rules.new_local local)
   new_local_does local = record {
     by = λ h. (
       record {
-        before = λ b. ((local ∷ b.0.0, b.0.1 ∙ append_one h.locals local b.0.0), b.1);
+        before = λ b. ((local ∷ b.0.0, b.0.1 ∙ onto h.locals local b.0.0), b.1);
         depth = refl;
         seen = λ l s. s;
       },
       λ before given sound. (
         stays_same whole h (record h { locals = h.locals ++ local ∷ [] }) refl sound,
-        ap (λ l. slice_get l (length h.locals)) (before.0.1 ∙ append_one h.locals local before.0.0) ∙ slice_next h.locals before.0.0 local,
+        ap (λ l. slice_get l (length h.locals)) (before.0.1 ∙ onto h.locals local before.0.0) ∙ slice_next h.locals before.0.0 local,
       ),
     );
   }

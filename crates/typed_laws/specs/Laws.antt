@@ -26,4 +26,5 @@ WellTypedStays = (old new : Table) → Grows old new → (f : Function) → IsWe
 -- Modules that follow the rules one after another, from a table without names, are well typed with the table that the last one
 -- leaves.
 abbrev pub TypedProgramsAreWellTyped : Type 0
-TypedProgramsAreWellTyped = (modules : List Module) (ts : List TypedModule) (syms : Table) → AreTypedAs 1 [] modules ts syms → AreWellTyped (functions_of ts) syms
+TypedProgramsAreWellTyped =
+    (modules : List Module) (ts : List TypedModule) (syms : Table) → AreTypedAs 1 [] modules ts syms → AreWellTyped (functions_of ts) syms
