@@ -11,11 +11,12 @@ _hlo() {
       [ "$before" = --turns ] && return
       case $word in -*) mapfile -t COMPREPLY < <(compgen -W "--turns" -- "$word"); return ;; esac ;;
     opt)
+      [ "$before" = --limit ] && return
       if [ "$before" = --profile ]; then
         mapfile -t COMPREPLY < <(compgen -f -- "$word")
         return
       fi
-      case $word in -*) mapfile -t COMPREPLY < <(compgen -W "--profile" -- "$word"); return ;; esac ;;
+      case $word in -*) mapfile -t COMPREPLY < <(compgen -W "--limit --profile --stats" -- "$word"); return ;; esac ;;
     check) ;;
     *) return ;;
   esac

@@ -9,6 +9,8 @@ pub struct Failing {
     pub shelf: Vec<u32>,
     pub input: Vec<u32>,
     pub disk: Vec<u32>,
+    /// The call that reads from the disk, counted from 1, whose bytes come with one bit turned over, and that bit.
+    pub bent: Vec<u32>,
 }
 
 impl Failing {
@@ -20,6 +22,7 @@ impl Failing {
             shelf: Vec::new(alloc),
             input: Vec::new(alloc),
             disk: Vec::new(alloc),
+            bent: Vec::new(alloc),
         }
     }
 
@@ -34,6 +37,7 @@ impl Failing {
             "SHELF" => &mut self.shelf,
             "INPUT" => &mut self.input,
             "DISK" => &mut self.disk,
+            "BENT" => &mut self.bent,
             _ => return Ok(false),
         };
         for number in numbers.split(',') {

@@ -10,6 +10,7 @@
 //!     $ hlo opt a.c                    runs the command
 //!     $ hlo run a.c < in.txt           gives it a file as its input
 //!     $ OUT=2,3 hlo opt a.c            lets the calls 2 and 3 of `out` fail; likewise ERR, SHELF, INPUT, DISK
+//!     $ BENT=2,3 hlo opt a.c           turns bit 3 over in the bytes of the second read of the disk
 //!
 //! What it puts out on `out` stands there as it is, each line of `err` behind `2> `, and its status in brackets,
 //! with the cost of the program where `opt` reports one. The escapes, both ways, are `\n`, `\r`, `\t`, `\\` and

@@ -3,7 +3,7 @@
 use crate::escapes::show;
 use crate::failing::Failing;
 use hlo_cmd::{opt_command, plain_command};
-use outside::{MemDisk, MemShelf, MemSink, MemSource, QuietGate};
+use outside::{BentDisk, MemDisk, MemShelf, MemSink, MemSource, QuietGate};
 use std::alloc::{AllocError, Global};
 
 /// The outside world of one command.
@@ -13,7 +13,7 @@ pub struct World {
     input: MemSource,
     out: MemSink,
     err: MemSink,
-    disk: MemDisk,
+    disk: BentDisk,
 }
 
 /// What a command answered and put out.
@@ -38,8 +38,17 @@ impl World {
             input: MemSource::new(input, failing.input),
             out: MemSink::new(alloc, failing.out),
             err: MemSink::new(alloc, failing.err),
-            disk: MemDisk::new(Vec::new(alloc), failing.disk),
+            disk: disk(alloc, failing.disk, failing.bent.as_slice()),
         }
+    }
+}
+
+/// An empty disk, of which these calls fail, and which bends so.
+fn disk(alloc: Global, fails: Vec<u32>, bent: &[u32]) -> BentDisk {
+    let disk = MemDisk::new(Vec::new(alloc), fails);
+    match bent {
+        [read, bit, ..] => BentDisk::new(disk, *read, *bit),
+        _ => BentDisk::new(disk, 0, 0),
     }
 }
 

@@ -2,19 +2,21 @@
 #![tactic(auto)]
 
 mod input;
+mod scratch;
 mod shelf;
 mod stream;
 
 use hlo_cmd::{opt_command, plain_command};
 use input::Input;
-use outside::{QuietGate, SureDisk};
+use outside::QuietGate;
+use scratch::ScratchFile;
 use shelf::FileShelf;
 use std::process::ExitCode;
 use std::{env, io};
 use stream::Stream;
 
 const HELP: &str = "\
-usage: hlo opt [--profile FILE] FILE...
+usage: hlo [--repo PATH] opt [--limit N] [--profile FILE] [--stats] FILE...
                                     prints the IL of the program that the C modules in
                                     the FILEs make
        hlo check FILE...            checks that they make a program, and prints nothing
@@ -27,12 +29,18 @@ usage: hlo opt [--profile FILE] FILE...
        hlo --version                prints the version
 options: --turns N  at most N turns, 0 to 1000000000000 (1000000000 if not given): each
                     call and each way back to a loop's start takes one
+         --limit N  at most N bytes of routines lie in memory beside the one that is
+                    worked at, 1 to 1073741824 (67108864 if not given); the others lie
+                    on a scratch file
+         --repo PATH  the scratch file, which is emptied (hlo.repo if not given)
+         --stats    tells on standard error how much was kept and moved, and the costs
          --profile FILE  the counts of routines and calls are those of the profile in
                     FILE, which train printed; without it each is 1
          1 to 64 FILEs; options may stand between them, and all words behind -- are FILEs
 status: 0 success, 2 usage, 3 refused file or program, 4 no profile, 5 cannot read a
-        file, 6 cannot write, 10 out of memory, 11 cannot read input, 12 trap, 13 out of
-        turns, 14 no IL program
+        file, 6 cannot write, 7 scratch file failed, 8 scratch file damaged, 9 limit too
+        small, 10 out of memory, 11 cannot read input, 12 trap, 13 out of turns, 14 no IL
+        program
 ";
 
 /// The version, and the toolchain that proved and built it.
@@ -75,16 +83,22 @@ fn ended(rt: &HostRuntime, written: io::Result<()>) -> ExitCode {
     }
 }
 
-/// Runs a command over the real objects.
+/// Runs a command over the real objects. A leading `--repo PATH` names the scratch file.
 fn command(rt: &HostRuntime, words: &[String]) -> ExitCode {
+    match words {
+        [flag, path, rest @ ..] if flag.as_str() == "--repo" => serve(rt, path.as_str(), rest),
+        words => serve(rt, "hlo.repo", words),
+    }
+}
+
+/// Runs a command with this scratch file, which `opt` alone opens.
+fn serve(rt: &HostRuntime, path: &str, words: &[String]) -> ExitCode {
     let mut shelf = FileShelf::new(rt);
     let mut out = Stream::new(rt.stdout());
     let mut err = Stream::new(rt.stderr());
     let status = match words.first() {
         Some(word) if word.as_str() == "opt" => {
-            let Ok(disk) = SureDisk::new(rt.alloc(), 0) else {
-                return refused(rt, io::Error::from(io::ErrorKind::OutOfMemory));
-            };
+            let disk = ScratchFile::open(rt, path);
             let answer = opt_command(
                 rt.alloc(),
                 words,

@@ -16,7 +16,7 @@ use Rattle.outside.specs.Told.{Told, Holds}
 use Rattle.hlo_cmd.specs.Messages.{ending_status, refusal_status, words_refusal}
 use Rattle.hlo_cmd.specs.RunIl.{ComesTo, HasNoSettings, HoldsProgram, HoldsProgramFault, IsOnlyProgramText, IsProgramText, IsRunIlCause, RunIlPromise, RunsToEnd, outcome_status}
 use Rattle.hlo_cmd.specs.declared.refusal.Refusal.{Refusal}
-use Rattle.hlo_cmd.specs.declared.refusal.Refusal.TheVariants.{Usage, Module, Link, Profile, Text, CannotRead, CannotWrite, CannotReadInput, Memory}
+use Rattle.hlo_cmd.specs.declared.refusal.Refusal.TheVariants.{Usage, Module, Link, Profile, Text, CannotRead, CannotWrite, Repository, Damaged, Unreadable, Unfit, TooSmall, CannotReadInput, Memory}
 use Rattle.hlo_cmd.specs.declared.refusal.TextFault.{TextFault}
 use Rattle.hlo_cmd.proofs.Endings.{same_status}
 
@@ -54,6 +54,11 @@ module _ (name : List ℕ) (told : Told) (turns shelf shelf_now : ℕ) (left lef
     complete_outcome given output p e text is_left run calm calm_out (Err (Text fault)) h = absurd (no_fault told bytes p fault is_told text h.0)
     complete_outcome given output p e text is_left run calm calm_out (Err (CannotRead file)) h = absurd (quiet h.1)
     complete_outcome given output p e text is_left run calm calm_out (Err CannotWrite) h = absurd (calm_out h.0)
+    complete_outcome given output p e text is_left run calm calm_out (Err Repository) h = absurd h
+    complete_outcome given output p e text is_left run calm calm_out (Err (Damaged place kept found)) h = absurd h
+    complete_outcome given output p e text is_left run calm calm_out (Err (Unreadable place)) h = absurd h
+    complete_outcome given output p e text is_left run calm calm_out (Err (Unfit pid)) h = absurd h
+    complete_outcome given output p e text is_left run calm calm_out (Err (TooSmall pid need limit)) h = absurd h
     complete_outcome given output p e text is_left run calm calm_out (Err CannotReadInput) h = absurd (calm h.0)
     complete_outcome given output p e text is_left run calm calm_out (Err Memory) h = inr refl
 
@@ -67,6 +72,11 @@ module _ (name : List ℕ) (told : Told) (turns shelf shelf_now : ℕ) (left lef
     refused_outcome none (Err (Text fault)) h = inl refl
     refused_outcome none (Err (CannotRead file)) h = absurd (quiet h.1)
     refused_outcome none (Err CannotWrite) h = absurd (none h.1.program (held_text told bytes h.1.program is_told h.1.held).text)
+    refused_outcome none (Err Repository) h = absurd h
+    refused_outcome none (Err (Damaged place kept found)) h = absurd h
+    refused_outcome none (Err (Unreadable place)) h = absurd h
+    refused_outcome none (Err (Unfit pid)) h = absurd h
+    refused_outcome none (Err (TooSmall pid need limit)) h = absurd h
     refused_outcome none (Err CannotReadInput) h = absurd (none h.1.program (held_text told bytes h.1.program is_told h.1.held).text)
     refused_outcome none (Err Memory) h = inr refl
 

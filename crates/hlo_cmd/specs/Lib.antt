@@ -1,9 +1,13 @@
 pub mod Check
+pub mod Keeping
 pub mod Messages
 pub mod Modules
 pub mod Opt
+pub mod Paging
+pub mod Pools
 pub mod Printing
 pub mod Profiles
+pub mod Reports
 pub mod Run
 pub mod RunIl
 pub mod Sizes

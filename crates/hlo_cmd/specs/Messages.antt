@@ -1,5 +1,5 @@
 -- The table of refusals: the status and the line of each, for all commands; and those of a program's ending.
-use Rattle.std.specs.Prelude.{ℕ, ◌-◌, ◌^◌, ◌⊎◌, ◌++◌, nat_lt, List, [], ◌∷◌, Option, take, if◌then◌else◌, codes, decimal, option_map, unwrap_or}
+use Rattle.std.specs.Prelude.{ℕ, ◌-◌, ◌^◌, ◌⊎◌, ◌++◌, nat_lt, List, [], ◌∷◌, Option, take, if◌then◌else◌, codes, decimal, option_map, unwrap_or, flat_map}
 use Rattle.std.specs.Borrow.{Bor}
 use Rattle.std.specs.Io.KnownBytes.{Appends}
 use Rattle.std.specs.List.{slice_get}
@@ -14,6 +14,7 @@ use Rattle.c_parse.specs.declared.fault.ParseKind.{ParseKind}
 use Rattle.c_parse.specs.declared.fault.ParseKind.TheVariants.{Unexpected, Deep}
 use Rattle.c_types.specs.declared.fault.TypeKind.{TypeKind}
 use Rattle.c_types.specs.declared.fault.TypeKind.TheVariants as kinds
+use Rattle.hex.specs.Hex.{encode_lower}
 use Rattle.hlo_num.specs.declared.word.Trap.{Trap}
 use Rattle.hlo_num.specs.declared.word.Trap.TheVariants.{Divide, Quotient, Shift, Index}
 use Rattle.hlo_words.specs.declared.settings.WordsFault.{WordsFault}
@@ -28,12 +29,15 @@ use Rattle.il_text.specs.declared.fault.IlKind.{IlKind}
 use Rattle.il_text.specs.declared.fault.IlKind.TheVariants as il_kinds
 use Rattle.linker.specs.declared.fault.LinkFault.{LinkFault}
 use Rattle.linker.specs.declared.fault.LinkFault.TheVariants.{Undefined, NoMain, MainType}
+use Rattle.naim_core.specs.declared.event.Failure.{Failure}
+use Rattle.naim_core.specs.declared.event.Failure.TheVariants as failure
 use Rattle.outside.specs.Faults.{Rose}
 use Rattle.sym_tables.specs.Table.{Table}
 use Rattle.hlo_cmd.specs.declared.print.PrintFault.{PrintFault}
 use Rattle.hlo_cmd.specs.declared.print.PrintFault.TheVariants as print_fault
 use Rattle.hlo_cmd.specs.declared.profiles.ProfileFault.{ProfileFault}
 use Rattle.hlo_cmd.specs.declared.profiles.ProfileFault.TheVariants as profile_fault
+use Rattle.hlo_cmd.specs.declared.report.Report.{Report}
 use Rattle.hlo_cmd.specs.declared.refusal.Refusal.{Refusal}
 use Rattle.hlo_cmd.specs.declared.refusal.Refusal.TheVariants as refusal
 use Rattle.hlo_cmd.specs.declared.refusal.TextFault.{TextFault}
@@ -155,6 +159,36 @@ usage_line = codes "hlo: usage" ++ 10 ∷ []
 abbrev pub unwritten_line : List ℕ
 unwritten_line = codes "hlo: cannot write" ++ 10 ∷ []
 
+-- a line of numbers, each behind its words
+abbrev pub counts_line : List (List ℕ × ℕ) → List ℕ
+counts_line counts = flat_map (λ c. c.0 ++ decimal c.1) counts ++ 10 ∷ []
+
+-- the line that tells that the scratch disk failed
+abbrev pub repository_line : List ℕ
+repository_line = codes "hlo: repository failed" ++ 10 ∷ []
+
+-- the line that tells that the record at this place has other bytes than those that were put there, by their SHA-256
+abbrev pub damaged_line : ℕ → List ℕ → List ℕ → List ℕ
+damaged_line place kept found =
+    codes "hlo: repository damaged at " ++ (decimal place ++ (codes ": kept " ++ (encode_lower kept ++ (codes " found " ++ (encode_lower found ++ 10 ∷ [])))))
+
+-- the lines that tell a record whose bytes are no routine's, and a routine that isn't the one that was put out
+abbrev pub unreadable_line : ℕ → List ℕ
+unreadable_line place = counts_line ((codes "hlo: repository unreadable at ", place) ∷ [])
+
+abbrev pub unfit_line : ℕ → List ℕ
+unfit_line pid = counts_line ((codes "hlo: repository unfit: routine ", pid) ∷ [])
+
+-- the line that tells a routine whose compact form is longer than the limit
+abbrev pub small_line : ℕ → ℕ → ℕ → List ℕ
+small_line pid need limit =
+    counts_line ((codes "hlo: limit too small: routine ", pid) ∷ (codes " needs ", need) ∷ (codes ", limit ", limit) ∷ [])
+
+-- the line of a report
+abbrev pub stats_line : Report → List ℕ
+stats_line r = counts_line ((codes "stats: peak ", r.charged_peak) ∷ (codes " under ", r.under_peak) ∷ (codes " compactions ", r.compactions)
+    ∷ (codes " offloads ", r.offloads) ∷ (codes " reloads ", r.reloads) ∷ (codes " cost ", r.cost_before) ∷ (codes " ", r.cost_after) ∷ [])
+
 abbrev pub no_input_line : List ℕ
 no_input_line = codes "hlo: cannot read input" ++ 10 ∷ []
 
@@ -170,6 +204,11 @@ refusal_line syms (refusal.Profile line) = profile_line line
 refusal_line syms (refusal.Text fault) = text_line fault
 refusal_line syms (refusal.CannotRead file) = unread_line file.now
 refusal_line syms refusal.CannotWrite = unwritten_line
+refusal_line syms refusal.Repository = repository_line
+refusal_line syms (refusal.Damaged place kept found) = damaged_line place kept found
+refusal_line syms (refusal.Unreadable place) = unreadable_line place
+refusal_line syms (refusal.Unfit pid) = unfit_line pid
+refusal_line syms (refusal.TooSmall pid need limit) = small_line pid need limit
 refusal_line syms refusal.CannotReadInput = no_input_line
 refusal_line syms refusal.Memory = memory_line
 
@@ -182,11 +221,16 @@ refusal_status (refusal.Profile line) = 4
 refusal_status (refusal.Text fault) = 14
 refusal_status (refusal.CannotRead file) = 5
 refusal_status refusal.CannotWrite = 6
+refusal_status refusal.Repository = 7
+refusal_status (refusal.Damaged place kept found) = 8
+refusal_status (refusal.Unreadable place) = 8
+refusal_status (refusal.Unfit pid) = 8
+refusal_status (refusal.TooSmall pid need limit) = 9
 refusal_status refusal.CannotReadInput = 11
 refusal_status refusal.Memory = 10
 
--- the refusal of words that give no settings, of files that give no program, of a text that wasn't put out, and of a program
--- that didn't run to its end
+-- the refusal of words that give no settings, of files that give no program, of a loader that stopped, of a text that wasn't
+-- put out, and of a program that didn't run to its end
 abbrev pub words_refusal : WordsFault → Refusal
 words_refusal words_fault.Usage = refusal.Usage
 words_refusal words_fault.Memory = refusal.Memory
@@ -202,6 +246,14 @@ program_refusal (program_fault.File file file_fault.CannotRead) = refusal.Cannot
 program_refusal (program_fault.File file file_fault.Memory) = refusal.Memory
 program_refusal (program_fault.Link fault) = refusal.Link fault
 program_refusal program_fault.Memory = refusal.Memory
+
+abbrev pub loader_refusal : Failure → Refusal
+loader_refusal failure.Repository = refusal.Repository
+loader_refusal (failure.Damaged place kept found) = refusal.Damaged place kept found
+loader_refusal (failure.Unreadable place) = refusal.Unreadable place
+loader_refusal (failure.Unfit pid) = refusal.Unfit pid
+loader_refusal (failure.TooSmall pid need limit) = refusal.TooSmall pid need limit
+loader_refusal failure.Memory = refusal.Memory
 
 abbrev pub print_refusal : PrintFault → Refusal
 print_refusal print_fault.Output = refusal.CannotWrite

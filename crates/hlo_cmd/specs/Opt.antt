@@ -1,9 +1,20 @@
 -- What `opt` promises.
-use Rattle.std.specs.Prelude.{◌≡◌, ℕ, ◌⊎◌, List, [], Option, Some, None, take, ⊤}
+use Rattle.std.specs.Prelude.{◌≡◌, ◌≢◌, ◌≤◌, ◌<◌, ℕ, suc, ◌⊎◌, ◌++◌, Bool, List, [], ◌∷◌, Option, Some, None, length, take, if◌then◌else◌, ⊤}
 use Rattle.std.specs.Io.KnownBytes.{Appends, Keeps}
+use Rattle.std.specs.List.{AllByRecursion}
+use Rattle.c_lower.specs.Lowering.{routine_of}
+use Rattle.c_module.specs.Files.{HoldsTyped}
+use Rattle.c_module.specs.Limits.{KeepsLimits, functions_in}
 use Rattle.c_module.specs.Programs.{IsProgramOf}
 use Rattle.c_module.specs.Told.{AreQuiet, AreRefused, AreWellFormedTexts}
+use Rattle.c_module.specs.Verdict.{HoldWellFormed}
+use Rattle.c_tree.specs.declared.declaration.Module.{Module}
+use Rattle.c_typed.specs.declared.function.TypedModule.{TypedModule}
+use Rattle.c_typed.specs.Trees.{Function}
+use Rattle.c_typed.specs.Views.{functions_of}
+use Rattle.compact_form.specs.Compact.{compact}
 use Rattle.hlo_words.specs.Settings.{IsOptSettings}
+use Rattle.hlo_words.specs.declared.settings.OptSettings.{OptSettings}
 use Rattle.il_core.specs.declared.program.IlProgram.{IlProgram}
 use Rattle.il_core.specs.Size.{cost}
 use Rattle.il_core.specs.Text.{text}
@@ -12,54 +23,96 @@ use Rattle.outside.specs.Faults.{Rose}
 use Rattle.outside.specs.Told.{Told, Holds}
 use Rattle.profile.specs.Counts.{Counts, Profiled}
 use Rattle.sym_tables.specs.Table.{Table}
-use Rattle.hlo_cmd.specs.Messages.{memory_line, profile_line, unread_line, unwritten_line, usage_line}
+use Rattle.hlo_cmd.specs.Messages.{damaged_line, memory_line, profile_line, repository_line, small_line, stats_line, unread_line, unreadable_line, unwritten_line, usage_line}
 use Rattle.hlo_cmd.specs.Modules.{StopsRefused, StopsUnread}
 use Rattle.hlo_cmd.specs.Profiles.{HasCounts, HoldsBadLine, IsProfileText}
 use Rattle.hlo_cmd.specs.Words.{asked_command}
 use Rattle.hlo_cmd.specs.declared.report.Report.{Report}
 use Rattle.hlo_cmd.specs.declared.words.CommandName.TheVariants as command
 
--- the words are those of `opt`, and ask for these files, by a profile where they name one
-pub record AsksOpt (words : List (List ℕ)) (profile : Option (List ℕ)) (files : List (List ℕ)) : Type 0 where
+-- the words are those of `opt`, and say this
+pub record AsksOpt (words : List (List ℕ)) (s : OptSettings) : Type 0 where
   pub command : asked_command words ≡ command.Opt
-  pub settings : IsOptSettings words (record { profile = profile; files = files })
+  pub settings : IsOptSettings words s
 
--- they ask for files, of which it is so with the counts of the profile that they name
-pub record OfAskedOpt (words : List (List ℕ)) (tells : List ℕ → Told) (Holds : Counts → List (List ℕ) → Type 0) : Type 0 where
-  pub profile : Option (List ℕ)
-  pub files : List (List ℕ)
+-- they say something, of which it is so with the counts of the profile that they name
+pub record OfAskedOpt (words : List (List ℕ)) (tells : List ℕ → Told) (Holds : OptSettings → Counts → Type 0) : Type 0 where
+  pub settings : OptSettings
   pub counts : Counts
-  pub asked : AsksOpt words profile files
-  pub counted : HasCounts tells profile counts
-  pub holds : Holds counts files
+  pub asked : AsksOpt words settings
+  pub counted : HasCounts tells settings.profile counts
+  pub holds : Holds settings counts
 
--- the report of a run that pages nothing and prints this program
-abbrev pub report_of : IlProgram → Report
-report_of p = record {
-  charged_peak = 0;
-  under_peak = 0;
-  compactions = 0;
-  offloads = 0;
-  reloads = 0;
-  cost_before = cost p.routines;
-  cost_after = cost p.routines;
-}
+-- `good` says of a limit that the disk that was handed in is honest, and reaches all records of routines under that limit.
 
--- the text of the lowered program of the files was put out, and its costs reported
-pub record Prints (tells : List ℕ → Told) (before after : Option (List ℕ)) (report : Report) (counts : Counts) (files : List (List ℕ)) : Type 0 where
+-- what is told of a report: its line, where the words ask for it
+abbrev pub report_line : Bool → Report → List ℕ
+report_line stats r = if stats then stats_line r else []
+
+-- Over a good disk the text of the lowered program of the files was put out; the bytes that nobody held stayed within the
+-- limit; the costs are the program's, and the report's line was told where the words ask for it.
+pub record Prints (tells : List ℕ → Told) (good : ℕ → Type 0) (before after : Option (List ℕ)) (Said : List ℕ → Type 0) (report : Report) (s : OptSettings)
+    (counts : Counts) : Type 0 where
   pub program : IlProgram
   pub syms : Table
-  pub from : IsProgramOf counts tells files program syms
-  pub printed : Appends before after (text program)
-  pub reported : report ≡ report_of program
+  pub from : IsProgramOf counts tells s.files program syms
+  pub printed : good s.limit → Appends before after (text program)
+  pub peak : report.under_peak ≤ s.limit
+  pub cost_before : report.cost_before ≡ cost program.routines
+  pub cost_after : report.cost_after ≡ cost program.routines
+  pub said : Said (report_line s.stats report)
 
--- a front of that text was put out
-pub record PrintsFront (tells : List ℕ → Told) (before after : Option (List ℕ)) (counts : Counts) (files : List (List ℕ)) : Type 0 where
+-- over a good disk a front of that text was put out
+pub record PrintsFront (tells : List ℕ → Told) (good : ℕ → Type 0) (before after : Option (List ℕ)) (s : OptSettings) (counts : Counts) : Type 0 where
   pub program : IlProgram
   pub syms : Table
-  pub from : IsProgramOf counts tells files program syms
-  pub front : ℕ
-  pub printed : Appends before after (take front (text program))
+  pub from : IsProgramOf counts tells s.files program syms
+  pub printed : good s.limit → (front : ℕ) × Appends before after (take front (text program))
+
+-- nothing was put out, or, over a good disk, a front of that text
+abbrev pub HasFront : (List ℕ → Told) → (ℕ → Type 0) → Option (List ℕ) → Option (List ℕ) → OptSettings → Counts → Type 0
+HasFront tells good before after s counts = Keeps before after ⊎ PrintsFront tells good before after s counts
+
+-- The routine of a function of the files is the first whose compact form is longer than the limit: files before its own are the
+-- texts of well formed modules, its own is the text of a module that is typed so, functions before it keep the limits of the
+-- language, as it does, and the compact forms of their routines are no longer than the limit.
+pub record IsTooSmall (tells : List ℕ → Told) (s : OptSettings) (counts : Counts) (pid need limit : ℕ) : Type 0 where
+  pub earlier : List (List ℕ)
+  pub file : List ℕ
+  pub later : List (List ℕ)
+  pub modules : List Module
+  pub ts : List TypedModule
+  pub names : Table
+  pub typed_as : TypedModule
+  pub syms : Table
+  pub fs : List Function
+  pub function : Function
+  pub others : List Function
+  pub whole : s.files ≡ earlier ++ file ∷ later
+  pub hold : HoldWellFormed tells earlier modules ts names
+  pub typed : HoldsTyped (suc (length earlier)) names (tells file) typed_as syms
+  pub functions : functions_in typed_as ≡ fs ++ function ∷ others
+  pub kept : AllByRecursion KeepsLimits fs
+  pub within : KeepsLimits function
+  pub fit : AllByRecursion (λ f. length (compact (routine_of syms counts f)) ≤ s.limit) (functions_of ts ++ fs)
+  pub long : s.limit < length (compact (routine_of syms counts function))
+  pub pid_is : pid ≡ function.pid
+  pub need_is : need ≡ length (compact (routine_of syms counts function))
+  pub limit_is : limit ≡ s.limit
+
+-- that is so, and its line was told
+pub record StopsTooSmall (tells : List ℕ → Told) (Said : List ℕ → Type 0) (s : OptSettings) (counts : Counts) : Type 0 where
+  pub pid : ℕ
+  pub need : ℕ
+  pub limit : ℕ
+  pub small : IsTooSmall tells s counts pid need limit
+  pub said : Said (small_line pid need limit)
+
+-- A record on the scratch disk, which isn't good, has other bytes than those that were put there, by their SHA-256, or bytes
+-- that are no such routine's; and its line was told.
+pub record StopsDamaged (good : ℕ → Type 0) (Said : List ℕ → Type 0) (s : OptSettings) (counts : Counts) : Type 0 where
+  pub distrusted : good s.limit → ⊥
+  pub record_told : ((place : ℕ) × ((kept : List ℕ) × ((found : List ℕ) × ((found ≢ kept) × Said (damaged_line place kept found))))) ⊎ ((place : ℕ) × Said (unreadable_line place))
 
 -- there is a report, and it is so
 abbrev pub IfSomeReport : (Report → Type 0) → Option Report → Type 0
@@ -69,17 +122,19 @@ IfSomeReport P (Some report) = P report
 -- the profile that the words name doesn't fit, and the line of that was told
 pub record StopsAtProfile (words : List (List ℕ)) (tells : List ℕ → Told) (Said : List ℕ → Type 0) : Type 0 where
   pub name : List ℕ
-  pub files : List (List ℕ)
+  pub settings : OptSettings
   pub number : ℕ
-  pub asked : AsksOpt words (Some name) files
+  pub asked : AsksOpt words settings
+  pub named : settings.profile ≡ Some name
   pub bad : HoldsBadLine (tells name) number
   pub said : Said (profile_line number)
 
 -- it couldn't be read
 pub record StopsUnreadProfile (words : List (List ℕ)) (before after : List ℕ → ℕ) (Said : List ℕ → Type 0) : Type 0 where
   pub name : List ℕ
-  pub files : List (List ℕ)
-  pub asked : AsksOpt words (Some name) files
+  pub settings : OptSettings
+  pub asked : AsksOpt words settings
+  pub named : settings.profile ≡ Some name
   pub rose : Rose (before name) (after name)
   pub said : Said (unread_line name)
 
@@ -101,7 +156,7 @@ IsQuietProfile before after (Some name) = Rose (before name) (after name) → �
 
 -- the words ask for nothing
 abbrev pub AsksNothing : List (List ℕ) → Type 0
-AsksNothing words = (profile : Option (List ℕ)) (files : List (List ℕ)) → AsksOpt words profile files → ⊥
+AsksNothing words = (s : OptSettings) → AsksOpt words s → ⊥
 
 -- the statuses at which a command over modules puts out nothing: the words, a file, reading it, or linking was refused
 abbrev pub IsQuiet : ℕ → Type 0
@@ -109,30 +164,37 @@ IsQuiet status = (status ≡ 2) ⊎ ((status ≡ 3) ⊎ (status ≡ 5))
 
 -- the statuses of `opt`
 abbrev pub IsOptStatus : ℕ → Type 0
-IsOptStatus status = (status ≡ 0) ⊎ ((status ≡ 2) ⊎ ((status ≡ 3) ⊎ ((status ≡ 4) ⊎ ((status ≡ 5) ⊎ ((status ≡ 6) ⊎ (status ≡ 10))))))
+IsOptStatus status = (status ≡ 0) ⊎ ((2 ≤ status) × (status ≤ 10))
 
 -- What `opt` promises: at 0 the text of the lowered program of the files, with the counts of the profile that is named, was put
--- out, and nothing told; 2 says that the words ask for nothing, 3 that the verdict on the files is a refusal, 4 that the profile's
--- file is none, 5 that it or one of the files couldn't be read, 6 that the count of the sink rose, each with its line; whatever
--- the status a front of that text was put out, and nothing at 2, 3, 4 and 5; and where files are told, and no count rose, those
--- that are to be refused are, a profile that is none is, and well formed modules that link are answered with 0, if memory suffices.
-pub record OptPromise (words : List (List ℕ)) (tells : List ℕ → Told) (shelf shelf_now : List ℕ
-    → ℕ) (before after : Option (List ℕ)) (out out_now : ℕ) (Said : List ℕ → Type 0) (status : ℕ) (report : Option Report) : Type 0 where
+-- out, over a good disk, and the report told where the words ask for it; 2 says that the words ask for nothing, 3 that the verdict
+-- on the files is a refusal, 4 that the profile's file is none, 5 that it or one of the files couldn't be read, 6 that the count of
+-- the sink rose, 7 that the disk's did, 8 that the disk isn't good and a record was changed, 9 that the limit is too small for a
+-- routine of the files, each with its line; whatever the status a front of that text was put out, over a good disk, and nothing
+-- at 2, 3, 4, 5 and 9; and where files are told, and no count rose, those that are to be refused are, a profile that is none is, and
+-- well formed modules that link, over a good disk, are answered with 0, if memory and the limit suffice.
+pub record OptPromise (words : List (List ℕ)) (tells : List ℕ → Told) (shelf shelf_now : List ℕ → ℕ) (before after : Option (List ℕ)) (out out_now : ℕ)
+    (good : ℕ → Type 0) (disk disk_now : ℕ) (Said : List ℕ → Type 0) (status : ℕ) (report : Option Report) : Type 0 where
   pub known : IsOptStatus status
   pub usage : status ≡ 2 → AsksNothing words × Said usage_line
   pub unusable : AsksNothing words → (status ≡ 2) ⊎ (status ≡ 10)
-  pub refused : status ≡ 3 → OfAskedOpt words tells (λ counts files. StopsRefused tells shelf shelf_now Said files)
+  pub refused : status ≡ 3 → OfAskedOpt words tells (λ s counts. StopsRefused tells shelf shelf_now Said s.files)
   pub bad_profile : status ≡ 4 → StopsAtProfile words tells Said
-  pub unread : status ≡ 5 → StopsUnreadProfile words shelf shelf_now Said ⊎ OfAskedOpt words tells (λ counts files. StopsUnread tells shelf shelf_now Said files)
+  pub unread : status ≡ 5 → StopsUnreadProfile words shelf shelf_now Said ⊎ OfAskedOpt words tells (λ s counts. StopsUnread tells shelf shelf_now Said s.files)
   pub memory : status ≡ 10 → Said memory_line
-  pub printed : status ≡ 0 → IfSomeReport (λ r. OfAskedOpt words tells (Prints tells before after r)) report × Said []
-  pub unwritten : status ≡ 6 → Rose out out_now × OfAskedOpt words tells (PrintsFront tells before after) × Said unwritten_line
-  pub front : Keeps before after ⊎ OfAskedOpt words tells (PrintsFront tells before after)
-  pub quiet : IsQuiet status ⊎ (status ≡ 4) → Keeps before after
-  pub refuses : (profile : Option (List ℕ)) (files : List (List ℕ)) → AsksOpt words profile files → HasGoodProfile tells profile → AreRefused tells files
-      → IsQuietProfile shelf shelf_now profile → AreQuiet shelf shelf_now files → (status ≡ 3) ⊎ (status ≡ 10)
-  pub refuses_profile : (name : List ℕ) (files : List (List ℕ)) → AsksOpt words (Some name) files → HasBadProfile tells name → (Rose (shelf name) (shelf_now name) → ⊥)
+  pub printed : status ≡ 0 → IfSomeReport (λ r. OfAskedOpt words tells (Prints tells good before after Said r)) report
+  pub unwritten : status ≡ 6 → Rose out out_now × OfAskedOpt words tells (PrintsFront tells good before after) × Said unwritten_line
+  pub failed : status ≡ 7 → Rose disk disk_now × OfAskedOpt words tells (HasFront tells good before after) × Said repository_line
+  pub damaged : status ≡ 8 → OfAskedOpt words tells (StopsDamaged good Said)
+  pub small : status ≡ 9 → OfAskedOpt words tells (StopsTooSmall tells Said)
+  pub front : Keeps before after ⊎ OfAskedOpt words tells (PrintsFront tells good before after)
+  pub quiet : IsQuiet status ⊎ ((status ≡ 4) ⊎ (status ≡ 9)) → Keeps before after
+  pub refuses : (s : OptSettings) → AsksOpt words s → HasGoodProfile tells s.profile → AreRefused tells s.files
+      → IsQuietProfile shelf shelf_now s.profile → AreQuiet shelf shelf_now s.files → (Rose disk disk_now → ⊥)
+      → (status ≡ 3) ⊎ ((status ≡ 9) ⊎ (status ≡ 10))
+  pub refuses_profile : (s : OptSettings) (name : List ℕ) → AsksOpt words s → s.profile ≡ Some name → HasBadProfile tells name → (Rose (shelf name) (shelf_now name) → ⊥)
       → (status ≡ 4) ⊎ (status ≡ 10)
-  pub complete : (profile : Option (List ℕ)) (files : List (List ℕ)) (names : Table) → AsksOpt words profile files → HasGoodProfile tells profile
-      → AreWellFormedTexts tells files names → refusal names ≡ None
-      → IsQuietProfile shelf shelf_now profile → AreQuiet shelf shelf_now files → (Rose out out_now → ⊥) → (status ≡ 0) ⊎ (status ≡ 10)
+  pub complete : (s : OptSettings) (names : Table) → AsksOpt words s → good s.limit → HasGoodProfile tells s.profile
+      → AreWellFormedTexts tells s.files names → refusal names ≡ None
+      → IsQuietProfile shelf shelf_now s.profile → AreQuiet shelf shelf_now s.files → (Rose out out_now → ⊥) → (Rose disk disk_now → ⊥)
+      → (status ≡ 0) ⊎ ((status ≡ 9) ⊎ (status ≡ 10))

@@ -19,7 +19,7 @@ use Rattle.outside.specs.Told.{Told, Untold, Absent, Holds}
 use Rattle.hlo_cmd.specs.Messages.{ending_line, ending_status, refusal_line, refusal_status, words_refusal}
 use Rattle.hlo_cmd.specs.Sizes.{most_bytes}
 use Rattle.hlo_cmd.specs.declared.refusal.Refusal.{Refusal}
-use Rattle.hlo_cmd.specs.declared.refusal.Refusal.TheVariants.{Usage, Module, Link, Profile, Text, CannotRead, CannotWrite, CannotReadInput, Memory}
+use Rattle.hlo_cmd.specs.declared.refusal.Refusal.TheVariants.{Usage, Module, Link, Profile, Text, CannotRead, CannotWrite, Repository, Damaged, Unreadable, Unfit, TooSmall, CannotReadInput, Memory}
 use Rattle.hlo_cmd.specs.declared.refusal.TextFault.{TextFault}
 use Rattle.hlo_cmd.specs.declared.refusal.TextFault.TheVariants.{TooLong, At}
 
@@ -82,6 +82,11 @@ IsReadCause (Profile line) name told shelf shelf_now = ⊥
 IsReadCause (Text fault) name told shelf shelf_now = HoldsProgramFault told fault
 IsReadCause (CannotRead file) name told shelf shelf_now = (file.now ≡ name) × Rose shelf shelf_now
 IsReadCause CannotWrite name told shelf shelf_now = ⊥
+IsReadCause Repository name told shelf shelf_now = ⊥
+IsReadCause (Damaged place kept found) name told shelf shelf_now = ⊥
+IsReadCause (Unreadable place) name told shelf shelf_now = ⊥
+IsReadCause (Unfit pid) name told shelf shelf_now = ⊥
+IsReadCause (TooSmall pid need limit) name told shelf shelf_now = ⊥
 IsReadCause CannotReadInput name told shelf shelf_now = ⊥
 IsReadCause Memory name told shelf shelf_now = Unit {0}
 
@@ -98,6 +103,11 @@ IsRunIlCause (CannotRead file) name told turns shelf shelf_now left left_now inp
     × Rose shelf shelf_now × Keeps before after
 IsRunIlCause CannotWrite name told turns shelf shelf_now left left_now input input_now before after out out_now = Rose out out_now
     × GainsFrontOfRun told turns left before after
+IsRunIlCause Repository name told turns shelf shelf_now left left_now input input_now before after out out_now = ⊥
+IsRunIlCause (Damaged place kept found) name told turns shelf shelf_now left left_now input input_now before after out out_now = ⊥
+IsRunIlCause (Unreadable place) name told turns shelf shelf_now left left_now input input_now before after out out_now = ⊥
+IsRunIlCause (Unfit pid) name told turns shelf shelf_now left left_now input input_now before after out out_now = ⊥
+IsRunIlCause (TooSmall pid need limit) name told turns shelf shelf_now left left_now input input_now before after out out_now = ⊥
 IsRunIlCause CannotReadInput name told turns shelf shelf_now left left_now input input_now before after out out_now = Rose input input_now
     × WantsMoreInput told turns left left_now before after
 IsRunIlCause Memory name told turns shelf shelf_now left left_now input input_now before after out out_now = Keeps before after

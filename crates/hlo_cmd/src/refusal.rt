@@ -1,6 +1,6 @@
 //! Why a command doesn't do what its words ask for.
 ghost use Rattle.std.specs.Prelude.{◌≡◌};
-ghost use Rattle.hlo_cmd.specs.Messages.{print_refusal, profile_refusal, program_refusal, refusal_status, run_refusal, words_refusal};
+ghost use Rattle.hlo_cmd.specs.Messages.{loader_refusal, print_refusal, profile_refusal, program_refusal, refusal_status, run_refusal, words_refusal};
 
 use crate::print::PrintFault;
 use crate::profiles::ProfileFault;
@@ -9,6 +9,7 @@ use hlo_words::WordsFault;
 use il_run::RunFault;
 use il_text::IlKind;
 use linker::LinkFault;
+use naim_core::Failure;
 
 /// What is wrong with the bytes of a file that should have a program's text.
 #[derive(Clone, Copy, PartialEq, Eq)]
@@ -36,6 +37,29 @@ pub(crate) enum Refusal<'a> {
     CannotRead(&'a str),
     /// The sink of the output failed.
     CannotWrite,
+    /// The scratch disk failed.
+    Repository,
+    /// A record on the scratch disk has other bytes than those that were put there: its place, the SHA-256 that was kept and
+    /// the one found.
+    Damaged {
+        place: u64,
+        kept: [u8; 32],
+        found: [u8; 32],
+    },
+    /// The bytes of the record at this place are no routine's.
+    Unreadable {
+        place: u64,
+    },
+    /// The routine that came back isn't the one that was put out.
+    Unfit {
+        pid: u32,
+    },
+    /// The compact form of a routine is longer than the limit.
+    TooSmall {
+        pid: u32,
+        need: u32,
+        limit: u64,
+    },
     /// The source of the program's input failed.
     CannotReadInput,
     /// Memory ran out.
@@ -53,6 +77,9 @@ impl<'a> Refusal<'a> {
             Refusal::Profile(_) => 4,
             Refusal::CannotRead(_) => 5,
             Refusal::CannotWrite => 6,
+            Refusal::Repository => 7,
+            Refusal::Damaged { .. } | Refusal::Unreadable { .. } | Refusal::Unfit { .. } => 8,
+            Refusal::TooSmall { .. } => 9,
             Refusal::Memory => 10,
             Refusal::CannotReadInput => 11,
             Refusal::Text(_) => 14,
@@ -93,6 +120,20 @@ pub(crate) fn program_refusal<'a>(fault: ProgramFault<'a>) -> Refusal<'a>
         },
         ProgramFault::Link(fault) => Refusal::Link(fault),
         ProgramFault::Memory => Refusal::Memory,
+    }
+}
+
+/// Why a loader stopped.
+pub(crate) fn loader_refusal<'a>(failure: Failure) -> Refusal<'a>
+    ensures { result ≡ loader_refusal failure }
+{
+    match failure {
+        Failure::Repository => Refusal::Repository,
+        Failure::Damaged { place, kept, found } => Refusal::Damaged { place, kept, found },
+        Failure::Unreadable { place } => Refusal::Unreadable { place },
+        Failure::Unfit { pid } => Refusal::Unfit { pid },
+        Failure::TooSmall { pid, need, limit } => Refusal::TooSmall { pid, need, limit },
+        Failure::Memory => Refusal::Memory,
     }
 }
 

@@ -1,9 +1,13 @@
 //! What the program ends with.
-ghost use Rattle.std.specs.Prelude.{◌≡◌};
+ghost use Rattle.std.specs.Prelude.{◌≡◌, None};
+ghost use Rattle.hlo_cmd.specs.Reports.{report_of};
 
-/// The exit status of the program: 0 for success, 2 for words that no command has, 3 for files that are refused, 5, 6 and
-/// 11 where reading a file, writing and reading the input failed, 10 where memory ran out, 12 and 13 where a program
-/// trapped or wanted a turn more, 14 for a text that is no program's.
+use naim_loader::Counters;
+
+/// The exit status of the program: 0 for success, 2 for words that no command has, 3 for files that are refused, 4 for a
+/// profile that is none, 5, 6, 7 and 11 where reading a file, writing, the scratch disk and reading the input failed, 8 where
+/// a record on the scratch disk was changed, 9 for a limit that is too small, 10 where memory ran out, 12 and 13 where a
+/// program trapped or wanted a turn more, 14 for a text that is no program's.
 #[derive(Clone, Copy, Debug, PartialEq, Eq)]
 pub struct Status(pub u8);
 
@@ -27,16 +31,16 @@ pub struct Report {
 }
 
 impl Report {
-    /// The report of a run that paged nothing and printed the lowered program, which has this cost.
-    pub(crate) fn unpaged(cost: u64) -> Report
-        ensures { result ≡ record { charged_peak = 0; under_peak = 0; compactions = 0; offloads = 0; reloads = 0; cost_before = cost; cost_after = cost } }
+    /// The report of a run with these counters, that printed the lowered program, which has this cost.
+    pub(crate) fn of(counters: Counters, cost: u64) -> Report
+        ensures { result ≡ report_of counters cost }
     {
         Report {
-            charged_peak: 0,
-            under_peak: 0,
-            compactions: 0,
-            offloads: 0,
-            reloads: 0,
+            charged_peak: counters.charged_peak,
+            under_peak: counters.under_peak,
+            compactions: counters.compactions,
+            offloads: counters.offloads,
+            reloads: counters.reloads,
             cost_before: cost,
             cost_after: cost,
         }
@@ -49,4 +53,17 @@ pub struct OptAnswer<D> {
     pub status: Status,
     pub disk: D,
     pub report: Option<Report>,
+}
+
+impl<D> OptAnswer<D> {
+    /// The answer with a status that tells a refusal.
+    pub(crate) fn refused(status: Status, disk: D) -> OptAnswer<D>
+        ensures { result ≡ record { status = status; disk = disk; report = None } }
+    {
+        OptAnswer {
+            status,
+            disk,
+            report: None,
+        }
+    }
 }

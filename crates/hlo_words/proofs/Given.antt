@@ -7,7 +7,7 @@ use Rattle.clap.specs.Matches.{first_value, matched_of, raw_values}
 use Rattle.clap.specs.Walk.{Row, Text, all_of, first_of, rows_of}
 use Rattle.clap.specs.declared.parser.matches.Found.{Found}
 use Rattle.clap.proofs.WalkLemmas.{first_value-rows, raw_values-rows}
-use Rattle.hlo_words.specs.Settings.{HasTurns, IsNumberIn}
+use Rattle.hlo_words.specs.Settings.{IsNumberIn, IsValue}
 
 abbrev pub given_texts : List (Bor Text) → List Text
 given_texts = map (λ s. s.now)
@@ -42,16 +42,17 @@ only_text (x ∷ y ∷ vs) d one = absurd (omega (arith, one))
 pub first_given : (name : Text) (f : Found) (o : Option (Bor Text)) → option_map (λ s. s.now) o ≡ first_value f name → first_of name (rows_of f) ≡ option_map (λ s. s.now) o
 first_given name f o e = sym (e ∙ first_value-rows f name)
 
-module _ (rows : List Row) (text : Text) (is : first_of (codes "turns") rows ≡ Some text) where
-  -- the text that was given is in the range
-  pub found_turns : (o : Option ℕ) → IfSome o (IsNumberIn 0 1000000000000 text) → IfSome o (HasTurns rows)
-  found_turns None h = tt
-  found_turns (Some n) h = rw is h
+module _ (name : Text) (default low high : ℕ) (rows : List Row) where
+  module _ (text : Text) (is : first_of name rows ≡ Some text) where
+    -- the text that was given is in the range
+    pub found_value : (o : Option ℕ) → IfSome o (IsNumberIn low high text) → IfSome o (IsValue default low high (first_of name rows))
+    found_value None h = tt
+    found_value (Some n) h = rw is h
 
-  -- and it isn't
-  pub no_turns : (o : Option ℕ) → IfNone o ((n : ℕ) → IsNumberIn 0 1000000000000 text n → ⊥) → IfNone o ((n : ℕ) → HasTurns rows n → ⊥)
-  no_turns None h = λ n turns. h n (rw is at turns)
-  no_turns (Some n) h = tt
+    -- and it isn't
+    pub no_value : (o : Option ℕ) → IfNone o ((n : ℕ) → IsNumberIn low high text n → ⊥) → IfNone o ((n : ℕ) → IsValue default low high (first_of name rows) n → ⊥)
+    no_value None h = λ n value. h n (rw is at value)
+    no_value (Some n) h = tt
 
-pub turns_left_out : (rows : List Row) → first_of (codes "turns") rows ≡ None → HasTurns rows 1000000000
-turns_left_out rows e = rw e refl
+  pub left_out : first_of name rows ≡ None → IsValue default low high (first_of name rows) default
+  left_out e = rw e refl

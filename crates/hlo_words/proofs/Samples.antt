@@ -1,11 +1,11 @@
 -- What the words of the commands say, at examples.
-use Rattle.std.proofs.Common.{◌≡◌, refl, sym, arith, [], ◌∷◌, codes, Some}
+use Rattle.std.proofs.Common.{◌≡◌, refl, sym, arith, [], ◌∷◌, codes, Some, None, true, false}
 use Rattle.clap.specs.Faults.{fault_of}
 use Rattle.clap.specs.Simple.{matches_of}
 use Rattle.std.proofs.lemmas.Fmt.{decimal_digit}
 use Rattle.clap.proofs.OnLiterals.{clap_on_literals}
 use Rattle.clap.specs.declared.error.kind.ErrorKind.TheVariants.{ArgumentConflict, DisplayHelp, UnknownArgument}
-use Rattle.hlo_words.specs.Lines.{files_app, profile_app, turns_app}
+use Rattle.hlo_words.specs.Lines.{files_app, opt_app, turns_app}
 use Rattle.hlo_words.specs.Settings.{IsOptSettings, IsRunSettings, IsRunIlSettings}
 
 -- files in their order, one of them behind `--`, and the turns between them
@@ -22,14 +22,29 @@ mixed_says = record {
   };
 }
 
--- a profile between files
-profiled_says : IsOptSettings (codes "opt" ∷ codes "a.c" ∷ codes "--profile" ∷ codes "p.txt" ∷ codes "b.c" ∷ [])
-    (record { profile = Some (codes "p.txt"); files = codes "a.c" ∷ codes "b.c" ∷ [] })
+-- a profile and the flag between files, and no limit
+profiled_says : IsOptSettings (codes "opt" ∷ codes "a.c" ∷ codes "--profile" ∷ codes "p.txt" ∷ codes "--stats" ∷ codes "b.c" ∷ [])
+    (record { limit = 67108864; profile = Some (codes "p.txt"); stats = true; files = codes "a.c" ∷ codes "b.c" ∷ [] })
 unfolding clap_on_literals
 profiled_says = record {
-  rows = matches_of (profile_app (codes "opt")) (codes "opt" ∷ codes "a.c" ∷ codes "--profile" ∷ codes "p.txt" ∷ codes "b.c" ∷ []);
+  rows = matches_of opt_app (codes "opt" ∷ codes "a.c" ∷ codes "--profile" ∷ codes "p.txt" ∷ codes "--stats" ∷ codes "b.c" ∷ []);
   read = record { taken = refl; found = refl };
+  limit = refl;
   profile = refl;
+  stats = refl;
+  files = record { given = refl; some = omega arith; most = omega arith };
+}
+
+-- a limit alone
+limited_says : IsOptSettings (codes "opt" ∷ codes "--limit=9" ∷ codes "a.c" ∷ [])
+    (record { limit = 9; profile = None; stats = false; files = codes "a.c" ∷ [] })
+unfolding clap_on_literals
+limited_says = record {
+  rows = matches_of opt_app (codes "opt" ∷ codes "--limit=9" ∷ codes "a.c" ∷ []);
+  read = record { taken = refl; found = refl };
+  limit = record { spelled = sym (decimal_digit 9 (omega arith)); least = omega arith; most = omega arith };
+  profile = refl;
+  stats = refl;
   files = record { given = refl; some = omega arith; most = omega arith };
 }
 

@@ -3,7 +3,7 @@ use Rattle.std.specs.Prelude.{◌≡◌, List, [], Some, codes}
 use Rattle.clap.specs.Walk.{Row, Rule, Text}
 use Rattle.clap.specs.Simple.{App, matches_of, new_rule, new_app, with_rule}
 use Rattle.clap.specs.Faults.{fault_of}
-use Rattle.clap.specs.declared.builder.action.ArgAction.TheVariants.{Set, Append}
+use Rattle.clap.specs.declared.builder.action.ArgAction.TheVariants.{Set, SetTrue, Append}
 
 -- `--turns N`
 abbrev pub turns_rule : Rule
@@ -13,6 +13,14 @@ turns_rule = record (new_rule (codes "turns")) { long = Some (codes "turns"); ac
 abbrev pub profile_rule : Rule
 profile_rule = record (new_rule (codes "profile")) { long = Some (codes "profile"); action = Some Set }
 
+-- `--limit N`
+abbrev pub limit_rule : Rule
+limit_rule = record (new_rule (codes "limit")) { long = Some (codes "limit"); action = Some Set }
+
+-- `--stats`
+abbrev pub stats_rule : Rule
+stats_rule = record (new_rule (codes "stats")) { long = Some (codes "stats"); action = Some SetTrue }
+
 -- `FILE...`
 abbrev pub files_rule : Rule
 files_rule = record (new_rule (codes "files")) { action = Some Append }
@@ -21,9 +29,12 @@ files_rule = record (new_rule (codes "files")) { action = Some Append }
 abbrev pub files_app : Text → App
 files_app name = with_rule (new_app name) files_rule
 
--- a command with a profile and files
-abbrev pub profile_app : Text → App
-profile_app name = with_rule (with_rule (new_app name) profile_rule) files_rule
+-- `opt` with a limit and a profile, and with a flag for the report and files behind them
+abbrev pub numbers_app : App
+numbers_app = with_rule (with_rule (new_app (codes "opt")) limit_rule) profile_rule
+
+abbrev pub opt_app : App
+opt_app = with_rule (with_rule numbers_app stats_rule) files_rule
 
 -- a command with a number of turns, and files
 abbrev pub turns_app : Text → App

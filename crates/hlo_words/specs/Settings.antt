@@ -1,8 +1,9 @@
 -- What the words of each command say.
 use Rattle.std.specs.Prelude.{◌≡◌, ◌≤◌, ◌==◌, ◌||◌, ℕ, Bool, false, List, [], ◌∷◌, Option, Some, None, length, codes}
+use Rattle.std.specs.Str.{bytes_eq}
 use Rattle.std.specs.Fmt.{decimal}
 use Rattle.clap.specs.Walk.{Row, Text, all_of, first_of}
-use Rattle.hlo_words.specs.Lines.{HasRead, files_app, profile_app, turns_app}
+use Rattle.hlo_words.specs.Lines.{HasRead, files_app, opt_app, turns_app}
 use Rattle.hlo_words.specs.declared.settings.CheckSettings.{CheckSettings}
 use Rattle.hlo_words.specs.declared.settings.OptSettings.{OptSettings}
 use Rattle.hlo_words.specs.declared.settings.RunIlSettings.{RunIlSettings}
@@ -29,6 +30,15 @@ IsValue default low high (Some text) n = IsNumberIn low high text n
 abbrev pub HasTurns : List Row → ℕ → Type 0
 HasTurns rows n = IsValue 1000000000 0 1000000000000 (first_of (codes "turns") rows) n
 
+-- the limit in bytes: 1 to 1073741824, and 67108864 where it isn't given
+abbrev pub HasLimit : List Row → ℕ → Type 0
+HasLimit rows n = IsValue 67108864 1 1073741824 (first_of (codes "limit") rows) n
+
+-- a flag was given: clap keeps `true` for it then
+abbrev pub is_set : Option Text → Bool
+is_set None = false
+is_set (Some text) = bytes_eq text (codes "true")
+
 -- the files, in the order of the words: one to 64
 pub record AreFiles (rows : List Row) (files : List Text) : Type 0 where
   pub given : all_of (codes "files") rows ≡ Some files
@@ -38,8 +48,10 @@ pub record AreFiles (rows : List Row) (files : List Text) : Type 0 where
 -- the words of `opt` say this
 pub record IsOptSettings (words : List Text) (s : OptSettings) : Type 0 where
   pub rows : List Row
-  pub read : HasRead (profile_app (codes "opt")) words rows
+  pub read : HasRead opt_app words rows
+  pub limit : HasLimit rows s.limit
   pub profile : first_of (codes "profile") rows ≡ s.profile
+  pub stats : is_set (first_of (codes "stats") rows) ≡ s.stats
   pub files : AreFiles rows s.files
 
 -- the words of `check` say this

@@ -4,7 +4,7 @@ ghost use Rattle.clap.specs.Simple.{app_of};
 ghost use Rattle.clap.specs.Matches.{found_of};
 ghost use Rattle.clap.specs.Values.{kind_of};
 ghost use Rattle.clap.specs.Walk.{rows_of};
-ghost use Rattle.hlo_words.specs.Lines.{HasRead, IsRefused, files_app, profile_app, turns_app};
+ghost use Rattle.hlo_words.specs.Lines.{HasRead, IsRefused, files_app, numbers_app, opt_app, turns_app};
 
 use crate::settings::WordsFault;
 use clap::error::ErrorKind;
@@ -26,16 +26,15 @@ pub(crate) fn read_files<'a>(
     }
 }
 
-/// What clap reads of the words of a command that has a profile and files.
-pub(crate) fn read_profiled<'a>(
+/// What clap reads of the words of `opt`.
+pub(crate) fn read_opt_line<'a>(
     alloc: Global,
-    name: &'a str,
     words: &'a [String],
 ) -> Result<ArgMatches<'a>, WordsFault>
-    ensures ok { IfOk result (λ m. HasRead (profile_app name.entry.now) (map string_bytes words.entry.now) (rows_of (found_of m))) }
-    ensures usage { result ≡ Err WordsFault.Usage → IsRefused (profile_app name.entry.now) (map string_bytes words.entry.now) }
+    ensures ok { IfOk result (λ m. HasRead opt_app (map string_bytes words.entry.now) (rows_of (found_of m))) }
+    ensures usage { result ≡ Err WordsFault.Usage → IsRefused opt_app (map string_bytes words.entry.now) }
 {
-    match profile_line(alloc, name)?.try_get_matches_from(words) {
+    match opt_line(alloc)?.try_get_matches_from(words) {
         Ok(matches) => Ok(matches),
         Err(error) => Err(words_fault(error)),
     }
@@ -64,15 +63,28 @@ fn files_line<'a>(alloc: Global, name: &'a str) -> Result<Command<'a>, AllocErro
     Command::new(alloc, name).arg(files)
 }
 
-/// `--profile FILE FILE...`
-fn profile_line<'a>(alloc: Global, name: &'a str) -> Result<Command<'a>, AllocError>
-    ensures { IfOk result (λ c. app_of c ≡ profile_app name.entry.now) }
+/// `--limit N --profile FILE`
+fn opt_options<'a>(alloc: Global) -> Result<Command<'a>, AllocError>
+    ensures { IfOk result (λ c. app_of c ≡ numbers_app) }
 {
+    let limit = Arg::new(alloc, "limit")
+        .long("limit")
+        .action(ArgAction::Set);
     let profile = Arg::new(alloc, "profile")
         .long("profile")
         .action(ArgAction::Set);
+    Command::new(alloc, "opt").arg(limit)?.arg(profile)
+}
+
+/// `--limit N --profile FILE --stats FILE...`
+fn opt_line<'a>(alloc: Global) -> Result<Command<'a>, AllocError>
+    ensures { IfOk result (λ c. app_of c ≡ opt_app) }
+{
+    let stats = Arg::new(alloc, "stats")
+        .long("stats")
+        .action(ArgAction::SetTrue);
     let files = Arg::new(alloc, "files").action(ArgAction::Append);
-    Command::new(alloc, name).arg(profile)?.arg(files)
+    opt_options(alloc)?.arg(stats)?.arg(files)
 }
 
 /// `--turns N FILE...`

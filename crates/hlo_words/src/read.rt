@@ -2,14 +2,14 @@
 ghost use Rattle.std.specs.Prelude.{◌≡◌, ℕ, List, [], ◌∷◌, IfOk, IfSome, IfNone, codes, map, string_bytes};
 ghost use Rattle.clap.specs.Matches.{found_of};
 ghost use Rattle.clap.specs.Walk.{all_of, first_of, rows_of};
-ghost use Rattle.hlo_words.specs.Settings.{AreFiles, HasTurns, IsCheckSettings, IsOptSettings, IsRunIlSettings, IsRunSettings, IsTrainSettings, AreRunSettings};
+ghost use Rattle.hlo_words.specs.Settings.{AreFiles, HasLimit, HasTurns, is_set, IsCheckSettings, IsOptSettings, IsRunIlSettings, IsRunSettings, IsTrainSettings, AreRunSettings};
 ghost use Rattle.hlo_words.specs.declared.settings.CheckSettings.{CheckSettings};
 ghost use Rattle.hlo_words.specs.declared.settings.OptSettings.{OptSettings};
 ghost use Rattle.hlo_words.specs.declared.settings.RunIlSettings.{RunIlSettings};
 ghost use Rattle.hlo_words.specs.declared.settings.RunSettings.{RunSettings};
 
 use crate::file_name::FileName;
-use crate::line::{read_files, read_profiled, read_turns};
+use crate::line::{read_files, read_opt_line, read_turns};
 use crate::number::number_in;
 use crate::settings::{CheckSettings, OptSettings, RunIlSettings, RunSettings, WordsFault};
 use clap::ArgMatches;
@@ -25,7 +25,14 @@ const DEFAULT_TURNS: u64 = 1_000_000_000;
 /// The greatest number of turns.
 const MAX_TURNS: u64 = 1_000_000_000_000;
 
-/// The settings of `opt --profile FILE FILE...`.
+/// The limit in bytes where the words don't say, 64 MiB.
+const DEFAULT_LIMIT: u64 = 1 << 26;
+
+/// The greatest limit in bytes, 1 GiB.
+const MAX_LIMIT: u64 = 1 << 30;
+
+/// The settings of `opt --limit N --profile FILE --stats FILE...`. The limit is from 1 to 1073741824 bytes, and
+/// 67108864 where it isn't given.
 ///
 /// The words are all those of the program, the command's name first; that one isn't looked at. They are read
 /// as clap reads a command with long options whose files stand last: a word behind `--` is a file, an option
@@ -35,10 +42,19 @@ pub fn read_opt(alloc: Global, words: &[String]) -> Result<OptSettings, WordsFau
     ensures ok { IfOk result (IsOptSettings (map string_bytes words.now)) }
     ensures usage { result ≡ Err WordsFault.Usage → (s : OptSettings) → IsOptSettings (map string_bytes words.now) s → ⊥ }
 {
-    let matches = read_profiled(alloc, "opt", words)?;
+    let matches = read_opt_line(alloc, words)?;
+    let Some(limit) = limit_of(&matches) else {
+        return Err(WordsFault::Usage);
+    };
     let profile = profile_of(alloc, &matches)?;
+    let stats = has_stats(&matches);
     let files = files_of(alloc, &matches)?;
-    Ok(OptSettings { profile, files })
+    Ok(OptSettings {
+        limit,
+        profile,
+        stats,
+        files,
+    })
 }
 
 /// The settings of `check FILE...`, read as [`read_opt`] says.
@@ -103,6 +119,27 @@ fn turns_of(matches: &ArgMatches<'_>) -> Option<u64>
     match matches.get_str("turns") {
         Some(text) => number_in(text, 0, MAX_TURNS),
         None => Some(DEFAULT_TURNS),
+    }
+}
+
+/// The limit in bytes.
+fn limit_of(matches: &ArgMatches<'_>) -> Option<u64>
+    ensures found { IfSome result (HasLimit (rows_of (found_of matches.now))) }
+    ensures none { IfNone result ((n : ℕ) → HasLimit (rows_of (found_of matches.now)) n → ⊥) }
+{
+    match matches.get_str("limit") {
+        Some(text) => number_in(text, 1, MAX_LIMIT),
+        None => Some(DEFAULT_LIMIT),
+    }
+}
+
+/// Whether the report is to be told.
+fn has_stats(matches: &ArgMatches<'_>) -> bool
+    ensures { result ≡ is_set (first_of (codes "stats") (rows_of (found_of matches.now))) }
+{
+    match matches.get_str("stats") {
+        Some(text) => text == "true",
+        None => false,
     }
 }
 

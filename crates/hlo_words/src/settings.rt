@@ -7,8 +7,12 @@ use thiserror::Error;
 /// What `opt` is to do.
 #[derive(Drop)]
 pub struct OptSettings {
+    /// How many bytes of routines may lie in memory that no worker holds.
+    pub limit: u64,
     /// The profile, where the words name one.
     pub profile: Option<FileName>,
+    /// Whether the report is told.
+    pub stats: bool,
     /// The modules, in the order of the words.
     pub files: Seq<FileName>,
 }

@@ -1,5 +1,5 @@
 use Rattle.std.proofs.Common.{sym, ap, ◌∙◌}
-use Rattle.hlo_cmd.specs.Messages.{refusal_line, unread_line}
+use Rattle.hlo_cmd.specs.Messages.{refusal_line, unfit_line, unread_line}
 use Rattle.hlo_cmd.proofs.Fronts.{says}
 use Rattle.hlo_cmd.proofs.messages.tell.Goals as goal
 
@@ -23,3 +23,23 @@ returns-in-Memory g c = says _ _ _ _ _ _ _
 pub returns-in-Profile : goal.returns-in-Profile
 returns-in-Profile g c = says _ _ _ _ _ _ _
     (ap (refusal_line c.args.syms.now) (sym c.in-Profile.is)) c.write_number.ensures.bytes c.write_number.ensures.cause
+
+pub returns-in-Repository : goal.returns-in-Repository
+returns-in-Repository g c = says _ _ _ _ _ _ _
+    (ap (refusal_line c.args.syms.now) (sym c.in-Repository.is)) c.write_all-in-Repository.ensures.bytes c.write_all-in-Repository.ensures.cause
+
+pub returns-in-Damaged : goal.returns-in-Damaged
+returns-in-Damaged g c = says _ _ _ _ _ _ _
+    (ap (refusal_line c.args.syms.now) (sym c.in-Damaged.is)) c.write_damage.ensures.bytes c.write_damage.ensures.cause
+
+pub returns-in-Unreadable : goal.returns-in-Unreadable
+returns-in-Unreadable g c = says _ _ _ _ _ _ _
+    (ap (refusal_line c.args.syms.now) (sym c.in-Unreadable.is)) c.write_counts.ensures.bytes c.write_counts.ensures.cause
+
+pub returns-in-Unfit : goal.returns-in-Unfit
+returns-in-Unfit g c = says _ _ _ _ _ _ _
+    (ap unfit_line c.from.ensures ∙ ap (refusal_line c.args.syms.now) (sym c.in-Unfit.is)) c.write_counts-in-Unfit.ensures.bytes c.write_counts-in-Unfit.ensures.cause
+
+pub returns-in-TooSmall : goal.returns-in-TooSmall
+returns-in-TooSmall g c = says _ _ _ _ _ _ _
+    (ap (refusal_line c.args.syms.now) (sym c.in-TooSmall.is)) c.write_small.ensures.bytes c.write_small.ensures.cause

@@ -1,0 +1,7 @@
+use Rattle.std.proofs.Common.{ap, sym, subst}
+use Rattle.hlo_cmd.specs.Messages.{Says}
+use Rattle.hlo_cmd.specs.Opt.{report_line}
+use Rattle.hlo_cmd.proofs.opt.tell_if.Goals as goal
+
+pub returns-then-stats : goal.returns-then-stats
+returns-then-stats g c = rw c.if-stats.true c.tell_report.ensures
