@@ -1,5 +1,6 @@
 -- The sums stay small.
-use Rattle.std.proofs.Common.{◌≡◌, ℕ, ◌+◌, ◌*◌, ◌<◌, ◌≤◌, ◌^◌, nat_eq, List, [], ◌∷◌, length, Option, Some, None, IsSome, refl, sym, ap, arith, ◌∙◌, sum_by, cond, true, false}
+use Rattle.std.proofs.Common.{◌≡◌, ℕ, ◌+◌, ◌*◌, ◌<◌, ◌≤◌, ◌^◌, nat_eq, List, [], ◌∷◌, length, Option, Some, None, IsSome, refl, sym, ap, arith, ◌∙◌}
+use Rattle.std.proofs.Common.{sum_by, cond, true, false}
 use Rattle.std.specs.Prelude.{count_by}
 use Rattle.std.specs.List.{IsDistinct, slice_get}
 use Rattle.std.specs.Map.{keys_of, values_of, lookup}
@@ -15,7 +16,8 @@ use Rattle.naim_core.specs.declared.pool.Stage.{Stage}
 use Rattle.naim_core.specs.declared.pool.Stage.TheVariants as stage
 use Rattle.list_laws.proofs.Entries.{other_number, number_itself, head_absent}
 
-held_small : (limit : ℕ) (st : Stage) (e c : ℕ) → IsFitPool limit (record { stage = st; e = e; c = c }) → held_part (record { stage = st; e = e; c = c }) ≤ 2 ^ 42
+held_small : (limit : ℕ) (st : Stage) (e c : ℕ) → IsFitPool limit (record { stage = st; e = e; c = c })
+    → held_part (record { stage = st; e = e; c = c }) ≤ 2 ^ 42
 held_small limit stage.Free e c f = omega arith
 held_small limit (stage.Read n) e c f = let a = f.shorter in let b = f.charge in omega arith
 held_small limit (stage.Written room) e c f = let a = f.shorter in let b = f.charge in let d = f.stage_fits in omega arith
@@ -26,7 +28,8 @@ held_small limit stage.Offloading e c f = let a = f.shorter in let b = f.charge 
 held_small limit (stage.Reloading mode.Read d) e c f = let a = f.shorter in let b = f.charge in omega arith
 held_small limit (stage.Reloading (mode.Write room) d) e c f = let a = f.shorter in let b = f.charge in let k = f.stage_fits in omega arith
 
-under_small : (limit : ℕ) (st : Stage) (e c : ℕ) → IsFitPool limit (record { stage = st; e = e; c = c }) → under_part (record { stage = st; e = e; c = c }) ≤ 2 ^ 40
+under_small : (limit : ℕ) (st : Stage) (e c : ℕ) → IsFitPool limit (record { stage = st; e = e; c = c })
+    → under_part (record { stage = st; e = e; c = c }) ≤ 2 ^ 40
 under_small limit stage.Free e c f = f.charge
 under_small limit (stage.Read n) e c f = omega arith
 under_small limit (stage.Written room) e c f = omega arith
@@ -36,7 +39,8 @@ under_small limit stage.Compacting e c f = let a = f.shorter in let b = f.charge
 under_small limit stage.Offloading e c f = omega arith
 under_small limit (stage.Reloading m d) e c f = omega arith
 
-held_bound : (limit : ℕ) (es : List (ℕ × Pool)) → IsDistinct nat_eq (keys_of es) → ((p : ℕ) (x : Pool) → lookup (nat_eq p) es ≡ Some x → IsFitPool limit x) → held_sum es ≤ length es * 2 ^ 42
+held_bound : (limit : ℕ) (es : List (ℕ × Pool)) → IsDistinct nat_eq (keys_of es) → ((p : ℕ) (x : Pool) → lookup (nat_eq p) es ≡ Some x → IsFitPool limit x)
+    → held_sum es ≤ length es * 2 ^ 42
 held_bound limit [] d fits = omega arith
 held_bound limit (e ∷ es) d fits =
     let rest = held_bound limit es (IsDistinct-tail nat_eq e.0 (keys_of es) d) (λ p x at. fits p x (let ne : nat_eq p e.0 ≡ false = other_number p e.0 (λ same.
@@ -46,7 +50,8 @@ held_bound limit (e ∷ es) d fits =
     let g : sum_by held_part (e.1 ∷ values_of es) ≤ length (e ∷ es) * 2 ^ 42 = omega arith in g
 
 -- a pool that the next state has fits beside the sums
-pub sums_fit : (s new : Core) (p : ℕ) (y : Pool) → IsSound s → IsSound new → s.limit ≤ 2 ^ 30 → pool_at new.pools p ≡ Some y → (under_sum s.pools + under_part y < 2 ^ 64) × (held_sum s.pools + held_part y < 2 ^ 64)
+pub sums_fit : (s new : Core) (p : ℕ) (y : Pool) → IsSound s → IsSound new → s.limit ≤ 2 ^ 30 → pool_at new.pools p ≡ Some y
+    → (under_sum s.pools + under_part y < 2 ^ 64) × (held_sum s.pools + held_part y < 2 ^ 64)
 sums_fit s new p y sound next small at =
     let fits = next.forms_fit p y at in let u = under_small new.limit y.stage y.e y.c fits in let h = held_small new.limit y.stage y.e y.c fits in
     let a = sound.under_fits in let n = sound.slots in let b = held_bound s.limit s.pools sound.one_pool sound.forms_fit in (omega arith, omega arith)

@@ -1,5 +1,6 @@
 -- What an accepted event of one pool leaves, for crates that keep more of each pool.
-use Rattle.std.proofs.Common.{◌≡◌, ◌≢◌, ℕ, ◌+◌, ◌<◌, ◌≤◌, ◌^◌, Bool, true, false, true≢false, cond, not, nat_eq, List, [], ◌∷◌, ◌++◌, length, Option, Some, None, Result, Ok, Err, refl, sym, ap, subst, ◌∙◌}
+use Rattle.std.proofs.Common.{◌≡◌, ◌≢◌, ℕ, ◌+◌, ◌<◌, ◌≤◌, ◌^◌, Bool, true, false, true≢false, cond, not, nat_eq, List, [], ◌∷◌, ◌++◌, length, Option}
+use Rattle.std.proofs.Common.{Some, None, Result, Ok, Err, refl, sym, ap, subst, ◌∙◌}
 use Rattle.std.specs.Prelude.{is_some, is_none, slice_get, slice_set, drop, ◌==◌, ◌&&◌, ◌||◌, nat_lt, nat_le, if◌then◌else◌}
 use Rattle.std.specs.Cmp.{nat_eq_equiv}
 use Rattle.std.specs.Option.{option_map_or}
@@ -8,7 +9,8 @@ use Rattle.std.proofs.lemmas.Option.{same_Some}
 use Rattle.naim_core.specs.Charges.{under_sum, room_of}
 use Rattle.naim_core.specs.Rows
 use Rattle.naim_core.specs.Sound.{IsSound}
-use Rattle.naim_core.specs.State.{Core, pool_at, hand_at, holds, victim, is_free, is_expanded, is_read, is_written, is_pinned, is_compacted, is_offloaded, is_away, is_compacting, is_offloading, is_reloading, is_moving, moves_by_disk}
+use Rattle.naim_core.specs.State.{Core, pool_at, hand_at, holds, victim, is_free, is_expanded, is_read, is_written, is_pinned, is_compacted}
+use Rattle.naim_core.specs.State.{is_offloaded, is_away, is_compacting, is_offloading, is_reloading, is_moving, moves_by_disk}
 use Rattle.naim_core.specs.Steps.{permit, then_state, on_pool, front, in_place, take_pin, Follows, step_of, step_running, is_fail, failed}
 use Rattle.naim_core.specs.declared.event.Event.{Event}
 use Rattle.naim_core.specs.declared.event.Event.TheVariants as event
@@ -16,7 +18,8 @@ use Rattle.naim_core.specs.declared.event.Failure.{Failure}
 use Rattle.naim_core.specs.declared.event.Form.{Form}
 use Rattle.naim_core.specs.declared.event.Mode.{Mode}
 use Rattle.naim_core.specs.declared.event.Refusal.{Refusal}
-use Rattle.naim_core.specs.declared.event.Refusal.TheVariants.{Stopped, Absent, Present, NotHeld, HandFull, NoTask, Moving, WrongForm, InUse, DiskOut, Fits, NotVictim, Full, BadSize}
+use Rattle.naim_core.specs.declared.event.Refusal.TheVariants.{Stopped, Absent, Present, NotHeld, HandFull, NoTask, Moving, WrongForm, InUse, DiskOut}
+use Rattle.naim_core.specs.declared.event.Refusal.TheVariants.{Fits, NotVictim, Full, BadSize}
 use Rattle.naim_core.specs.declared.pool.Pool.{Pool}
 use Rattle.naim_core.specs.declared.pool.Stage.{Stage}
 use Rattle.naim_core.specs.declared.pool.Stage.TheVariants as stage
@@ -34,7 +37,8 @@ follows_err (Ok t) old new r f = let h = f.0 in cc
 follows_err (Err x) old new r f = let h : x ≡ r = (let e = f.0 in cc) in (f.1, ap (λ z. Err z) h)
 
 -- an answer that isn't Ok leaves the state
-pub follows_none : (st : Result Core Refusal) (old new : Core) (r : Result (Unit {0}) Refusal) → Follows st old r new → ((u : Unit {0}) → r ≡ Ok u → ⊥) → new ≡ old
+pub follows_none : (st : Result Core Refusal) (old new : Core) (r : Result (Unit {0}) Refusal) → Follows st old r new → ((u : Unit {0}) → r ≡ Ok u → ⊥)
+    → new ≡ old
 follows_none (Ok t) old new r f n = absurd (n tt f.0)
 follows_none (Err x) old new r f n = f.1
 
@@ -90,7 +94,8 @@ record OnPool (s : Core) (p : ℕ) (row : Pool → Rows.Row) (f : Pool → Pool)
   permitted : permit (row pool) (f pool) ≡ Ok (f pool)
   is : new ≡ g pool (f pool)
 
-on_this : (s : Core) (p : ℕ) (x : Pool) (row : Pool → Rows.Row) (f : Pool → Pool) (g : Pool → Pool → Core) (new : Core) (r : Result Pool Refusal) → pool_at s.pools p ≡ Some x → permit (row x) (f x) ≡ r
+on_this : (s : Core) (p : ℕ) (x : Pool) (row : Pool → Rows.Row) (f : Pool → Pool) (g : Pool → Pool → Core) (new : Core) (r : Result Pool Refusal)
+    → pool_at s.pools p ≡ Some x → permit (row x) (f x) ≡ r
     → then_state r (λ y. g x y) ≡ Ok new → OnPool s p row f g new
 on_this s p x row f g new (Ok y) at e h =
     let same = permit_gives (row x) (f x) y e in let n : g x y ≡ new = cc in
@@ -106,18 +111,30 @@ did_on : (s : Core) (p : ℕ) (row : Pool → Rows.Row) (f : Pool → Pool) (g :
     → on_pool s p (λ x. then_state (permit (row x) (f x)) (λ y. g x y)) ≡ Ok new → OnPool s p row f g new
 did_on s p row f g new h = on_found s p row f g new (pool_at s.pools p) refl h
 
-turned_to : (s t new : Core) (p : ℕ) (x y : Pool) → Swapped p x y s.pools t.pools → t.limit ≡ s.limit → t.failure ≡ s.failure → new ≡ t → Turned s new p (Some y) t.disk
-turned_to s t new p x y swap l f is = subst (λ z. Turned s z p (Some y) t.disk) (sym is) (record { limit_is = l; failure_is = f; disk_is = refl; found = swap.found })
+turned_to : (s t new : Core) (p : ℕ) (x y : Pool) → Swapped p x y s.pools t.pools → t.limit ≡ s.limit → t.failure ≡ s.failure → new ≡ t
+    → Turned s new p (Some y) t.disk
+turned_to s t new p x y swap l f is = subst (λ z. Turned s z p (Some y) t.disk) (sym is)
+    (record { limit_is = l; failure_is = f; disk_is = refl; found = swap.found })
 
-pub insert_did : (s new : Core) (p : ℕ) (f : Form) (e c : ℕ) → s.failure ≡ None → step_of s (event.Insert p f e c) ≡ Ok new → Turned s new p (Some (Rows.inserted f e c)) s.disk
+pub insert_did : (s new : Core) (p : ℕ) (f : Form) (e c : ℕ) → s.failure ≡ None → step_of s (event.Insert p f e c) ≡ Ok new
+    → Turned s new p (Some (Rows.inserted f e c)) s.disk
 insert_did s new p f e c none h =
     let row = Rows.insert_row s.limit (under_sum s.pools) (is_some (pool_at s.pools p)) (length s.pools) f e c in
     let t : Core = record s { pools = (p, Rows.inserted f e c) ∷ s.pools } in
     let is : new ≡ t = made row (Rows.inserted f e c) (permit row (Rows.inserted f e c)) refl (sym (running s (event.Insert p f e c) none) ∙ h) in
-    subst (λ z. Turned s z p (Some (Rows.inserted f e c)) s.disk) (sym is) (record { limit_is = refl; failure_is = refl; disk_is = refl; found = λ q. ap (λ b. cond b (Some (Rows.inserted f e c)) (pool_at s.pools q)) (nat_eq_equiv.symm q p) })
+    subst (λ z. Turned s z p (Some (Rows.inserted f e c)) s.disk) (sym is)
+    (record {
+      limit_is = refl;
+      failure_is = refl;
+      disk_is = refl;
+      found = λ q. ap (λ b. cond b (Some (Rows.inserted f e c)) (pool_at s.pools q))
+          (nat_eq_equiv.symm q p);
+    })
   where
-    made : (row : Rows.Row) (x : Pool) (r : Result Pool Refusal) → permit row x ≡ r → then_state r (λ y. record s { pools = (p, y) ∷ s.pools }) ≡ Ok new → new ≡ record s { pools = (p, x) ∷ s.pools }
-    made row x (Ok y) e k = let same = permit_gives row x y e in let n : record s { pools = (p, y) ∷ s.pools } ≡ new = cc in sym n ∙ ap (λ z. record s { pools = (p, z) ∷ s.pools }) (sym same)
+    made : (row : Rows.Row) (x : Pool) (r : Result Pool Refusal) → permit row x ≡ r → then_state r (λ y. record s { pools = (p, y) ∷ s.pools }) ≡ Ok new
+        → new ≡ record s { pools = (p, x) ∷ s.pools }
+    made row x (Ok y) e k = let same = permit_gives row x y e in let n : record s { pools = (p, y) ∷ s.pools } ≡ new = cc in sym n ∙ ap
+        (λ z. record s { pools = (p, z) ∷ s.pools }) (sym same)
     made row x (Err r) e k = cc
 
 -- expanded, and nobody writes it
@@ -140,7 +157,8 @@ pub pin_read_did : (s new : Core) (w p : ℕ) → IsSound s → s.failure ≡ No
     → Did s new p (λ st. is_shared st ≡ true) (λ x. record x { stage = Rows.with_reader x.stage }) (λ x. s.disk)
 pin_read_did s new w p sound none h =
     let g = hand_at s.hands w in
-    let d = did_on s p (λ x. Rows.pin_read_row x g) (λ x. record x { stage = Rows.with_reader x.stage }) (λ x y. record s { pools = front p y s.pools; hands = slice_set s.hands w (record g { read = Some p }) }) new
+    let d = did_on s p (λ x. Rows.pin_read_row x g) (λ x. record x { stage = Rows.with_reader x.stage })
+    (λ x y. record s { pools = front p y s.pools; hands = slice_set s.hands w (record g { read = Some p }) }) new
     (sym (running s (event.PinRead w p) none) ∙ h) in
     let x = d.pool in let y : Pool = record x { stage = Rows.with_reader x.stage } in
     let free = part (is_some g.read) HandFull _ y d.permitted in let still = part (is_moving x.stage) Moving _ y free.1 in
@@ -149,7 +167,8 @@ pin_read_did s new w p sound none h =
       pool = x;
       at = d.at;
       was = shared_of x.stage still.0 here.0 alone.0;
-      turned = turned_to s (record s { pools = front p y s.pools; hands = slice_set s.hands w (record g { read = Some p }) }) new p x y (swapped_front p x y s.pools sound.one_pool d.at) refl refl d.is;
+      turned = turned_to s (record s { pools = front p y s.pools; hands = slice_set s.hands w (record g { read = Some p }) }) new p x y
+          (swapped_front p x y s.pools sound.one_pool d.at) refl refl d.is;
     }
 
 free_of : (st : Stage) → is_moving st ≡ false → is_away st ≡ false → is_pinned st ≡ false → st ≡ stage.Free
@@ -166,16 +185,19 @@ pub pin_write_did : (s new : Core) (w p room : ℕ) → IsSound s → s.failure 
     → Did s new p (λ st. st ≡ stage.Free) (λ x. record x { stage = stage.Written room }) (λ x. s.disk)
 pin_write_did s new w p room sound none h =
     let g = hand_at s.hands w in
-    let d = did_on s p (λ x. Rows.pin_write_row x g s.in_wave p room) (λ x. record x { stage = stage.Written room }) (λ x y. record s { pools = front p y s.pools; hands = slice_set s.hands w (record g { written = Some p }) }) new
+    let d = did_on s p (λ x. Rows.pin_write_row x g s.in_wave p room) (λ x. record x { stage = stage.Written room })
+    (λ x y. record s { pools = front p y s.pools; hands = slice_set s.hands w (record g { written = Some p }) }) new
     (sym (running s (event.PinWrite w p room) none) ∙ h) in
     let x = d.pool in let y : Pool = record x { stage = stage.Written room } in
     let free = part (is_some g.written) HandFull _ y d.permitted in let task = part (s.in_wave && not (holds g.task p)) NoTask _ y free.1 in
-    let still = part (is_moving x.stage) Moving _ y task.1 in let here = part (is_away x.stage) WrongForm _ y still.1 in let alone = part (is_pinned x.stage) InUse _ y here.1 in
+    let still = part (is_moving x.stage) Moving _ y task.1 in let here = part (is_away x.stage) WrongForm _ y still.1 in let alone = part (is_pinned x.stage)
+    InUse _ y here.1 in
     record {
       pool = x;
       at = d.at;
       was = free_of x.stage still.0 here.0 alone.0;
-      turned = turned_to s (record s { pools = front p y s.pools; hands = slice_set s.hands w (record g { written = Some p }) }) new p x y (swapped_front p x y s.pools sound.one_pool d.at) refl refl d.is;
+      turned = turned_to s (record s { pools = front p y s.pools; hands = slice_set s.hands w (record g { written = Some p }) }) new p x y
+          (swapped_front p x y s.pools sound.one_pool d.at) refl refl d.is;
     }
 
 away_of : (st : Stage) → is_moving st ≡ false → is_expanded st ≡ false → is_away st ≡ true
@@ -194,20 +216,28 @@ home_of st (Some w) h e = (let k : (is_offloaded st && true) ≡ true = ap (λ z
 
 -- a pool that is away is on its way; from the disk, which was home, with the disk
 pub reload_begin_did : (s new : Core) (w p : ℕ) (m : Mode) → IsSound s → s.failure ≡ None → step_of s (event.ReloadBegin w p m) ≡ Ok new
-    → Did s new p (λ st. (is_away st ≡ true) × (st ≡ stage.Offloaded → s.disk ≡ None)) (λ x. record x { stage = stage.Reloading m (is_offloaded x.stage) }) (λ x. if is_offloaded x.stage then Some w else s.disk)
+    → Did s new p (λ st. (is_away st ≡ true) × (st ≡ stage.Offloaded → s.disk ≡ None)) (λ x. record x { stage = stage.Reloading m (is_offloaded x.stage) })
+    (λ x. if is_offloaded x.stage then Some w else s.disk)
 reload_begin_did s new w p m sound none h =
     let g = hand_at s.hands w in
     let d = did_on s p (λ x. Rows.reload_begin_row x g s.in_wave p m s.disk) (λ x. record x { stage = stage.Reloading m (is_offloaded x.stage) })
     (λ x y. record s { pools = in_place p y s.pools; hands = slice_set s.hands w (take_pin m p g); disk = if is_offloaded x.stage then Some w else s.disk }) new
     (sym (running s (event.ReloadBegin w p m) none) ∙ h) in
     let x = d.pool in let y : Pool = record x { stage = stage.Reloading m (is_offloaded x.stage) } in
-    let free = part (is_some g.moved || is_some (Rows.pin_place m g)) HandFull _ y d.permitted in let task = part (Rows.is_write m && s.in_wave && not (holds g.task p)) NoTask _ y free.1 in
-    let still = part (is_moving x.stage) Moving _ y task.1 in let here = part (is_expanded x.stage) WrongForm _ y still.1 in let home = part (is_offloaded x.stage && is_some s.disk) DiskOut _ y here.1 in
+    let free = part (is_some g.moved || is_some (Rows.pin_place m g)) HandFull _ y d.permitted in let task = part
+    (Rows.is_write m && s.in_wave && not (holds g.task p)) NoTask _ y free.1 in
+    let still = part (is_moving x.stage) Moving _ y task.1 in let here = part (is_expanded x.stage) WrongForm _ y still.1 in let home = part
+    (is_offloaded x.stage && is_some s.disk) DiskOut _ y here.1 in
     record {
       pool = x;
       at = d.at;
       was = (away_of x.stage still.0 here.0, home_of x.stage s.disk home.0);
-      turned = turned_to s (record s { pools = in_place p y s.pools; hands = slice_set s.hands w (take_pin m p g); disk = if is_offloaded x.stage then Some w else s.disk }) new p x y (swapped_in_place p x y s.pools sound.one_pool d.at) refl refl d.is;
+      turned = turned_to s (record s {
+        pools = in_place p y s.pools;
+        hands = slice_set s.hands w (take_pin m p g);
+        disk = if is_offloaded x.stage then Some w
+            else s.disk;
+      }) new p x y (swapped_in_place p x y s.pools sound.one_pool d.at) refl refl d.is;
     }
 
 pub reload_end_did : (s new : Core) (w p : ℕ) → IsSound s → s.failure ≡ None → step_of s (event.ReloadEnd w p) ≡ Ok new
@@ -215,7 +245,11 @@ pub reload_end_did : (s new : Core) (w p : ℕ) → IsSound s → s.failure ≡ 
 reload_end_did s new w p sound none h =
     let g = hand_at s.hands w in
     let d = did_on s p (λ x. Rows.reload_end_row x g p) (λ x. record x { stage = Rows.reloaded x.stage })
-    (λ x y. record s { pools = front p y s.pools; hands = slice_set s.hands w (record g { moved = None }); disk = if moves_by_disk x.stage then None else s.disk }) new
+    (λ x y. record s {
+      pools = front p y s.pools;
+      hands = slice_set s.hands w (record g { moved = None });
+      disk = if moves_by_disk x.stage then None else s.disk;
+    }) new
     (sym (running s (event.ReloadEnd w p) none) ∙ h) in
     let x = d.pool in let y : Pool = record x { stage = Rows.reloaded x.stage } in
     let held = part (not (holds g.moved p && is_reloading x.stage)) NotHeld _ y d.permitted in
@@ -223,14 +257,20 @@ reload_end_did s new w p sound none h =
       pool = x;
       at = d.at;
       was = (both_of (holds g.moved p) (is_reloading x.stage) held.0).1;
-      turned = turned_to s (record s { pools = front p y s.pools; hands = slice_set s.hands w (record g { moved = None }); disk = if moves_by_disk x.stage then None else s.disk }) new p x y (swapped_front p x y s.pools sound.one_pool d.at) refl refl d.is;
+      turned = turned_to s (record s {
+        pools = front p y s.pools;
+        hands = slice_set s.hands w (record g { moved = None });
+        disk = if moves_by_disk x.stage
+            then None else s.disk;
+      }) new p x y (swapped_front p x y s.pools sound.one_pool d.at) refl refl d.is;
     }
 
 pub unpin_read_did : (s new : Core) (w p : ℕ) (f : Form) → IsSound s → s.failure ≡ None → step_of s (event.UnpinRead w p f) ≡ Ok new
     → Did s new p (λ st. is_read st ≡ true) (λ x. record x { stage = Rows.without_reader f x.stage }) (λ x. s.disk)
 unpin_read_did s new w p f sound none h =
     let g = hand_at s.hands w in
-    let d = did_on s p (λ x. Rows.unpin_read_row s.limit (under_sum s.pools) x g p f) (λ x. record x { stage = Rows.without_reader f x.stage }) (λ x y. record s { pools = front p y s.pools; hands = slice_set s.hands w (record g { read = None }) }) new
+    let d = did_on s p (λ x. Rows.unpin_read_row s.limit (under_sum s.pools) x g p f) (λ x. record x { stage = Rows.without_reader f x.stage })
+    (λ x y. record s { pools = front p y s.pools; hands = slice_set s.hands w (record g { read = None }) }) new
     (sym (running s (event.UnpinRead w p f) none) ∙ h) in
     let x = d.pool in let y : Pool = record x { stage = Rows.without_reader f x.stage } in
     let held = part (not (holds g.read p && is_read x.stage)) NotHeld _ y d.permitted in
@@ -238,15 +278,22 @@ unpin_read_did s new w p f sound none h =
       pool = x;
       at = d.at;
       was = (both_of (holds g.read p) (is_read x.stage) held.0).1;
-      turned = turned_to s (record s { pools = front p y s.pools; hands = slice_set s.hands w (record g { read = None }) }) new p x y (swapped_front p x y s.pools sound.one_pool d.at) refl refl d.is;
+      turned = turned_to s (record s { pools = front p y s.pools; hands = slice_set s.hands w (record g { read = None }) }) new p x y
+          (swapped_front p x y s.pools sound.one_pool d.at) refl refl d.is;
     }
 
 pub unpin_write_did : (s new : Core) (w p : ℕ) (f : Form) (e c : ℕ) → IsSound s → s.failure ≡ None → step_of s (event.UnpinWrite w p f e c) ≡ Ok new
     → Did s new p (λ st. is_written st ≡ true) (λ x. Rows.inserted f e c) (λ x. s.disk)
 unpin_write_did s new w p f e c sound none h =
     let g = hand_at s.hands w in
-    let after : Pool → Core = λ y. record s { pools = front p y s.pools; hands = slice_set s.hands w (record g { written = None; task = if holds g.task p then None else g.task }); done = if holds g.task p then s.done ++ p ∷ [] else s.done } in
-    let d = did_on s p (λ x. Rows.unpin_write_row s.limit (under_sum s.pools) x g p f e c) (λ x. Rows.inserted f e c) (λ x y. after y) new (sym (running s (event.UnpinWrite w p f e c) none) ∙ h) in
+    let after : Pool → Core = λ y. record s {
+      pools = front p y s.pools;
+      hands = slice_set s.hands w
+          (record g { written = None; task = if holds g.task p then None else g.task });
+      done = if holds g.task p then s.done ++ p ∷ [] else s.done;
+    } in
+    let d = did_on s p (λ x. Rows.unpin_write_row s.limit (under_sum s.pools) x g p f e c) (λ x. Rows.inserted f e c) (λ x y. after y) new
+    (sym (running s (event.UnpinWrite w p f e c) none) ∙ h) in
     let x = d.pool in let y = Rows.inserted f e c in
     let held = part (not (holds g.written p && is_written x.stage)) NotHeld _ y d.permitted in
     record {
@@ -260,7 +307,8 @@ pub compact_end_did : (s new : Core) (w p : ℕ) → IsSound s → s.failure ≡
     → Did s new p (λ st. is_compacting st ≡ true) (λ x. record x { stage = stage.Compacted }) (λ x. s.disk)
 compact_end_did s new w p sound none h =
     let g = hand_at s.hands w in
-    let d = did_on s p (λ x. Rows.compact_end_row x g p) (λ x. record x { stage = stage.Compacted }) (λ x y. record s { pools = in_place p y s.pools; hands = slice_set s.hands w (record g { moved = None }) }) new
+    let d = did_on s p (λ x. Rows.compact_end_row x g p) (λ x. record x { stage = stage.Compacted })
+    (λ x y. record s { pools = in_place p y s.pools; hands = slice_set s.hands w (record g { moved = None }) }) new
     (sym (running s (event.CompactEnd w p) none) ∙ h) in
     let x = d.pool in let y : Pool = record x { stage = stage.Compacted } in
     let held = part (not (holds g.moved p && is_compacting x.stage)) NotHeld _ y d.permitted in
@@ -268,14 +316,16 @@ compact_end_did s new w p sound none h =
       pool = x;
       at = d.at;
       was = (both_of (holds g.moved p) (is_compacting x.stage) held.0).1;
-      turned = turned_to s (record s { pools = in_place p y s.pools; hands = slice_set s.hands w (record g { moved = None }) }) new p x y (swapped_in_place p x y s.pools sound.one_pool d.at) refl refl d.is;
+      turned = turned_to s (record s { pools = in_place p y s.pools; hands = slice_set s.hands w (record g { moved = None }) }) new p x y
+          (swapped_in_place p x y s.pools sound.one_pool d.at) refl refl d.is;
     }
 
 pub offload_end_did : (s new : Core) (w p : ℕ) → IsSound s → s.failure ≡ None → step_of s (event.OffloadEnd w p) ≡ Ok new
     → Did s new p (λ st. is_offloading st ≡ true) (λ x. record x { stage = stage.Offloaded }) (λ x. None)
 offload_end_did s new w p sound none h =
     let g = hand_at s.hands w in
-    let d = did_on s p (λ x. Rows.offload_end_row x g p) (λ x. record x { stage = stage.Offloaded }) (λ x y. record s { pools = in_place p y s.pools; hands = slice_set s.hands w (record g { moved = None }); disk = None }) new
+    let d = did_on s p (λ x. Rows.offload_end_row x g p) (λ x. record x { stage = stage.Offloaded })
+    (λ x y. record s { pools = in_place p y s.pools; hands = slice_set s.hands w (record g { moved = None }); disk = None }) new
     (sym (running s (event.OffloadEnd w p) none) ∙ h) in
     let x = d.pool in let y : Pool = record x { stage = stage.Offloaded } in
     let held = part (not (holds g.moved p && is_offloading x.stage)) NotHeld _ y d.permitted in
@@ -283,7 +333,8 @@ offload_end_did s new w p sound none h =
       pool = x;
       at = d.at;
       was = (both_of (holds g.moved p) (is_offloading x.stage) held.0).1;
-      turned = turned_to s (record s { pools = in_place p y s.pools; hands = slice_set s.hands w (record g { moved = None }); disk = None }) new p x y (swapped_in_place p x y s.pools sound.one_pool d.at) refl refl d.is;
+      turned = turned_to s (record s { pools = in_place p y s.pools; hands = slice_set s.hands w (record g { moved = None }); disk = None }) new p x y
+          (swapped_in_place p x y s.pools sound.one_pool d.at) refl refl d.is;
     }
 
 -- the victim is expanded and nobody holds it, or compacted
@@ -291,15 +342,18 @@ pub compact_begin_did : (s new : Core) (w p wanted : ℕ) → IsSound s → s.fa
     → Did s new p (λ st. is_expanded st ≡ true) (λ x. record x { stage = stage.Compacting }) (λ x. s.disk)
 compact_begin_did s new w p wanted sound none h =
     let g = hand_at s.hands w in
-    let d = did_on s p (λ x. Rows.compact_begin_row s.limit (under_sum s.pools) (victim s.pools) x g p wanted) (λ x. record x { stage = stage.Compacting }) (λ x y. record s { pools = in_place p y s.pools; hands = slice_set s.hands w (record g { moved = Some p }) }) new
+    let d = did_on s p (λ x. Rows.compact_begin_row s.limit (under_sum s.pools) (victim s.pools) x g p wanted) (λ x. record x { stage = stage.Compacting })
+    (λ x y. record s { pools = in_place p y s.pools; hands = slice_set s.hands w (record g { moved = Some p }) }) new
     (sym (running s (event.CompactBegin w p wanted) none) ∙ h) in
     let x = d.pool in let y : Pool = record x { stage = stage.Compacting } in
-    let free = part (is_some g.moved) HandFull _ y d.permitted in let still = part (is_moving x.stage) Moving _ y free.1 in let here = part (is_away x.stage) WrongForm _ y still.1 in
+    let free = part (is_some g.moved) HandFull _ y d.permitted in let still = part (is_moving x.stage) Moving _ y free.1 in let here = part (is_away x.stage)
+    WrongForm _ y still.1 in
     record {
       pool = x;
       at = d.at;
       was = expanded_of x.stage still.0 here.0;
-      turned = turned_to s (record s { pools = in_place p y s.pools; hands = slice_set s.hands w (record g { moved = Some p }) }) new p x y (swapped_in_place p x y s.pools sound.one_pool d.at) refl refl d.is;
+      turned = turned_to s (record s { pools = in_place p y s.pools; hands = slice_set s.hands w (record g { moved = Some p }) }) new p x y
+          (swapped_in_place p x y s.pools sound.one_pool d.at) refl refl d.is;
     }
   where
     expanded_of : (st : Stage) → is_moving st ≡ false → is_away st ≡ false → is_expanded st ≡ true
@@ -316,16 +370,24 @@ pub offload_begin_did : (s new : Core) (w p wanted : ℕ) → IsSound s → s.fa
     → Did s new p (λ st. (st ≡ stage.Compacted) × (s.disk ≡ None)) (λ x. record x { stage = stage.Offloading }) (λ x. Some w)
 offload_begin_did s new w p wanted sound none h =
     let g = hand_at s.hands w in
-    let d = did_on s p (λ x. Rows.offload_begin_row s.limit (under_sum s.pools) (victim s.pools) x g p wanted s.disk) (λ x. record x { stage = stage.Offloading }) (λ x y. record s { pools = in_place p y s.pools; hands = slice_set s.hands w (record g { moved = Some p }); disk = Some w }) new
+    let d = did_on s p (λ x. Rows.offload_begin_row s.limit (under_sum s.pools) (victim s.pools) x g p wanted s.disk)
+    (λ x. record x { stage = stage.Offloading }) (λ x y. record s
+    { pools = in_place p y s.pools; hands = slice_set s.hands w (record g { moved = Some p }); disk = Some w }) new
     (sym (running s (event.OffloadBegin w p wanted) none) ∙ h) in
     let x = d.pool in let y : Pool = record x { stage = stage.Offloading } in
-    let free = part (is_some g.moved) HandFull _ y d.permitted in let still = part (is_moving x.stage) Moving _ y free.1 in let here = part (is_expanded x.stage || is_offloaded x.stage) WrongForm _ y still.1 in
+    let free = part (is_some g.moved) HandFull _ y d.permitted in let still = part (is_moving x.stage) Moving _ y free.1 in let here = part
+    (is_expanded x.stage || is_offloaded x.stage) WrongForm _ y still.1 in
     let home = part (is_some s.disk) DiskOut _ y here.1 in
     record {
       pool = x;
       at = d.at;
-      was = (compacted_of x.stage still.0 (neither (is_expanded x.stage) (is_offloaded x.stage) here.0).0 (neither (is_expanded x.stage) (is_offloaded x.stage) here.0).1, none_of s.disk home.0);
-      turned = turned_to s (record s { pools = in_place p y s.pools; hands = slice_set s.hands w (record g { moved = Some p }); disk = Some w }) new p x y (swapped_in_place p x y s.pools sound.one_pool d.at) refl refl d.is;
+      was = (
+        compacted_of x.stage still.0 (neither (is_expanded x.stage) (is_offloaded x.stage) here.0).0
+            (neither (is_expanded x.stage) (is_offloaded x.stage) here.0).1,
+        none_of s.disk home.0,
+      );
+      turned = turned_to s (record s { pools = in_place p y s.pools; hands = slice_set s.hands w (record g { moved = Some p }); disk = Some w }) new p x y
+          (swapped_in_place p x y s.pools sound.one_pool d.at) refl refl d.is;
     }
   where
     none_of : (o : Option ℕ) → is_some o ≡ false → o ≡ None
@@ -346,8 +408,15 @@ offload_begin_did s new w p wanted sound none h =
 pub remove_did : (s new : Core) (p : ℕ) → IsSound s → s.failure ≡ None → step_of s (event.Remove p) ≡ Ok new → Turned s new p None s.disk
 remove_did s new p sound none h = gone (pool_at s.pools p) (sym (running s (event.Remove p) none) ∙ h)
   where
-    gone : (o : Option Pool) → option_map_or (λ x. permit (Rows.remove_row x s.in_wave) (record s { pools = remove_entry (nat_eq p) s.pools })) o (Err Absent) ≡ Ok new → Turned s new p None s.disk
+    gone : (o : Option Pool) → option_map_or (λ x. permit (Rows.remove_row x s.in_wave) (record s { pools = remove_entry (nat_eq p) s.pools })) o (Err Absent) ≡
+        Ok new → Turned s new p None s.disk
     gone None k = cc
     gone (Some x) k =
         let is = permit_gives (Rows.remove_row x s.in_wave) (record s { pools = remove_entry (nat_eq p) s.pools }) new k in
-        subst (λ z. Turned s z p None s.disk) is (record { limit_is = refl; failure_is = refl; disk_is = refl; found = λ q. lookup_removed p q s.pools sound.one_pool })
+        subst (λ z. Turned s z p None s.disk) is (record {
+          limit_is = refl;
+          failure_is = refl;
+          disk_is = refl;
+          found = λ q. lookup_removed p q s.pools
+              sound.one_pool;
+        })

@@ -1,5 +1,6 @@
 -- A table without pools: slots that are all empty.
-use Rattle.std.proofs.Common.{◌≡◌, ℕ, zero, suc, ◌+◌, ◌-◌, ◌<◌, ◌≤◌, ◌^◌, Bool, true, false, nat_eq, List, [], ◌∷◌, ◌++◌, reverse, take, replicate, length, Option, Some, None, refl, sym, ap, subst, arith, ◌∙◌, cond, length-append, add-one}
+use Rattle.std.proofs.Common.{◌≡◌, ℕ, zero, suc, ◌+◌, ◌-◌, ◌<◌, ◌≤◌, ◌^◌, Bool, true, false, nat_eq, List, [], ◌∷◌, ◌++◌, reverse, replicate, length}
+use Rattle.std.proofs.Common.{Option, Some, None, IsSome, refl, sym, ap, subst, arith, ◌∙◌, cond, length-append, add-one}
 use Rattle.std.specs.List.{IsDistinct, AllByRecursion, slice_get}
 use Rattle.std.specs.Map.{keys_of, lookup, lookup_entry}
 use Rattle.std.proofs.lemmas.List.{reverse-append, length-reverse, length-replicate, take_all}
@@ -9,12 +10,15 @@ use Rattle.lru.specs.LruCache.{put_entries}
 use Rattle.std.specs.Prelude.{count_by, is_some}
 use Rattle.std.proofs.lemmas.List.Sums.{sum_by-cons}
 use Rattle.naim_core.specs.Charges.{under_sum, held_sum}
+use Rattle.naim_core.specs.Links.{IsRing}
 use Rattle.naim_core.specs.Sound.{IsSound, hands_with}
-use Rattle.naim_core.specs.State.{IsKept, start, empty_hand, holds}
+use Rattle.naim_core.specs.State.{IsKept, start, empty_hand, holds, is_free}
+use Rattle.naim_core.specs.declared.pool.Stage.{Stage}
+use Rattle.naim_core.specs.declared.ring.Ring.{Ring}
 use Rattle.naim_core.specs.declared.state.Hand.{Hand}
 use Rattle.naim_core.proofs.Keeps.{one}
-use Rattle.naim_core.specs.Table.{Place, Order, pools_in, IsOrder, IsIndexed, IsSpare, IsTable}
-use Rattle.list_laws.proofs.Entries.{other_number, apart_number}
+use Rattle.naim_core.specs.Table.{Order, pools_in, IsSpare, IsTable, slots_at, AreRings, is_resident}
+use Rattle.list_laws.proofs.Entries.{other_number, apart_number, same_number}
 
 -- n empty slots, in the order in which they were put
 pub empty_order : ℕ → Order
@@ -73,7 +77,8 @@ absent_entry (suc n) m h = rw (other_number m n (λ e. omega arith)) (absent_ent
 
 pub put_next : (n cap : ℕ) → n < cap → put_entries nat_eq (record { entries = empty_order n; cap = cap }) n None ≡ empty_order (n + 1)
 unfolding empty_order
-put_next n cap h = rw (absent_entry n n (omega arith)) (rw add-one (ap (λ es. (n, None) ∷ es) (take_all (cap - 1) (empty_order n) (let l = length_empty n in omega arith))))
+put_next n cap h = rw (absent_entry n n (omega arith)) (rw add-one
+    (ap (λ es. (n, None) ∷ es) (take_all (cap - 1) (empty_order n) (let l = length_empty n in omega arith))))
 
 found_empty : (n m : ℕ) → m < n → lookup (nat_eq m) (empty_order n) ≡ Some None
 unfolding empty_order
@@ -113,7 +118,8 @@ fresh_table n m room is fits = record {
   spares = subst (IsSpare (empty_order n)) (sym (numbers_back n)) (record {
     empty = all_empty n n (omega arith);
     differ = slots_differ n;
-    count = (let a = ap length (no_pools n) in let b = ap length (numbers_back n) in let c = length_numbers n in let d = length-reverse (numbers n) in omega arith);
+    count = (let a = ap length (no_pools n) in let b = ap length (numbers_back n) in let c = length_numbers n in let d = length-reverse (numbers n)
+        in omega arith);
   });
   room_fits = fits;
   under_is = sym (ap under_sum (no_pools n));
@@ -121,16 +127,40 @@ fresh_table n m room is fits = record {
   held_fits = omega arith;
 }
 
+-- the rings that `new` makes
+no_slots : (test : Stage → Bool) (n : ℕ) → slots_at test (empty_order n) ≡ []
+unfolding empty_order
+no_slots test zero = refl
+no_slots test (suc n) = no_slots test n
+
+below_all : (n i : ℕ) → IsSome (lookup (nat_eq i) (empty_order n)) → i < n
+unfolding empty_order
+below_all zero i h = cc
+below_all (suc n) i h = (elim (nat_eq i n) as (λ b. nat_eq i n ≡ b → i < suc n) [
+  | true ↦ λ t. let s = same_number i n t in omega arith
+  | false ↦ λ t. let k = below_all n i (rw t at h) in omega arith
+]) refl
+
+pub fresh_rings : (n : ℕ) → n ≡ 4096 → (free resident : Ring) → IsRing free.behind.items free.before.items []
+    → IsRing resident.behind.items resident.before.items [] → AreRings (empty_order n) free resident
+fresh_rings n is free resident f r = record {
+  free_is = subst (IsRing free.behind.items free.before.items) (sym (no_slots is_free n)) f;
+  resident_is = subst (IsRing resident.behind.items resident.before.items) (sym (no_slots is_resident n)) r;
+  slots_fit = λ i h. let k = below_all n i h in omega arith;
+}
+
 pub fresh_pools : (n : ℕ) → pools_in (empty_order n) ≡ []
 fresh_pools n = no_pools n
 
 nobody_holds : (place : Hand → Option ℕ) (n q : ℕ) → place empty_hand ≡ None → hands_with place (replicate n empty_hand) q ≡ 0
 nobody_holds place zero q none = refl
-nobody_holds place (suc n) q none = let c = sum_by-cons (λ h. one (holds (place h) q)) empty_hand (replicate n empty_hand) in let z : one (holds (place empty_hand) q) ≡ 0 = ap (λ o. one (holds o q)) none in let r = nobody_holds place n q none in omega arith
+nobody_holds place (suc n) q none = let c = sum_by-cons (λ h. one (holds (place h) q)) empty_hand (replicate n empty_hand) in let z : one
+    (holds (place empty_hand) q) ≡ 0 = ap (λ o. one (holds o q)) none in let r = nobody_holds place n q none in omega arith
 
 no_task_count : (n : ℕ) → count_by (λ h. is_some h.task) (replicate n empty_hand) ≡ 0
 no_task_count zero = refl
-no_task_count (suc n) = let c = sum_by-cons (λ h. one (is_some h.task)) empty_hand (replicate n empty_hand) in let r = no_task_count n in let z : one (is_some empty_hand.task) ≡ 0 = refl in omega arith
+no_task_count (suc n) = let c = sum_by-cons (λ h. one (is_some h.task)) empty_hand (replicate n empty_hand) in let r = no_task_count n in let z : one
+    (is_some empty_hand.task) ≡ 0 = refl in omega arith
 
 all_are_empty : (n w : ℕ) (h : Hand) → slice_get (replicate n empty_hand) w ≡ Some h → h ≡ empty_hand
 all_are_empty zero w h at = cc

@@ -1,4 +1,5 @@
 pub mod Bounds
+pub mod Chains
 pub mod Cuts
 pub mod Effects
 pub mod Events
@@ -9,6 +10,7 @@ pub mod Told
 pub mod Places
 pub mod Repeat
 pub mod Replays
+pub mod Residents
 pub mod Same
 pub mod Tables
 pub mod Walks

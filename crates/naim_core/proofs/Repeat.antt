@@ -40,13 +40,17 @@ repeat_found xs i d within same = (elim (has_repeat xs) as (λ b. has_repeat xs 
 ]) refl
 
 -- neighbours that rise keep all apart
-rising : (xs : List ℕ) (d : ℕ) → ((k : ℕ) → k + 1 < length xs → get_or xs k d < get_or xs (k + 1) d) → (i j : ℕ) → i + j + 1 < length xs → get_or xs i d < get_or xs (i + j + 1) d
+rising : (xs : List ℕ) (d : ℕ) → ((k : ℕ) → k + 1 < length xs → get_or xs k d < get_or xs (k + 1) d) → (i j : ℕ) → i + j + 1 < length xs
+    → get_or xs i d < get_or xs (i + j + 1) d
 rising xs d up i zero h = let e : i + 0 + 1 ≡ i + 1 = omega arith in let u = up i (omega arith) in rw e u
-rising xs d up i (suc j) h = let r = rising xs d up i j (omega arith) in let u = up (i + j + 1) (omega arith) in let e : i + suc j + 1 ≡ i + j + 1 + 1 = omega arith in rw e (omega arith)
+rising xs d up i (suc j) h = let r = rising xs d up i j (omega arith) in let u = up (i + j + 1) (omega arith) in let e : i + suc j + 1 ≡ i + j + 1 + 1 =
+    omega arith in rw e (omega arith)
 
 pub no_repeat_sorted : (xs : List ℕ) → IsSorted nat_cmp xs → ((k d : ℕ) → k + 1 < length xs → get_or xs k d ≢ get_or xs (k + 1) d) → has_repeat xs ≡ false
 no_repeat_sorted xs sorted differ = no_repeat xs (IsDistinct-from_apart nat_eq xs (λ i j d lt within.
-    let up : (k : ℕ) → k + 1 < length xs → get_or xs k d < get_or xs (k + 1) d = λ k h. (let a = ge_from_not_lt (get_or xs (k + 1) d) (get_or xs k d) (sorted k d (omega arith) h) in let b = differ k d h in omega arith) in
+    let up : (k : ℕ) → k + 1 < length xs
+    → get_or xs k d < get_or xs (k + 1) d = λ k h. (let a = ge_from_not_lt (get_or xs (k + 1) d) (get_or xs k d) (sorted k d (omega arith) h) in let b =
+    differ k d h in omega arith) in
     let e : i + (j - i - 1) + 1 ≡ j = omega arith in let r = rising xs d up i (j - i - 1) (omega arith) in
     let r' = rw e at r in other_number (get_or xs i d) (get_or xs j d) (λ s. omega arith)))
 

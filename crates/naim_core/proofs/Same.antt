@@ -1,5 +1,6 @@
 -- No event changes the limit or the number of workers; records lie apart.
-use Rattle.std.proofs.Common.{◌≡◌, ◌≢◌, ℕ, ◌+◌, ◌*◌, ◌<◌, ◌≤◌, Bool, true, false, nat_eq, List, [], ◌∷◌, ◌++◌, drop, length, Option, Some, None, Ok, Err, Result, refl, sym, ap, subst, arith, ◌∙◌, ◌⊎◌, inl, inr}
+use Rattle.std.proofs.Common.{◌≡◌, ◌≢◌, ℕ, ◌+◌, ◌*◌, ◌<◌, ◌≤◌, Bool, true, false, nat_eq, List, [], ◌∷◌, ◌++◌, drop, length, Option, Some, None, Ok}
+use Rattle.std.proofs.Common.{Err, Result, refl, sym, ap, subst, arith, ◌∙◌, ◌⊎◌, inl, inr}
 use Rattle.std.specs.Prelude.{slice_get, slice_set, MatchResult, is_some, ◌&&◌, not, if◌then◌else◌}
 use Rattle.std.specs.Map.{remove_entry}
 use Rattle.std.specs.Option.{option_map_or}
@@ -45,21 +46,135 @@ one_hand : (s : Core) (w : ℕ) (h : Hand) → length (slice_set s.hands w h) �
 one_hand s w h = length-set s.hands w h
 
 running_keeps : (s : Core) (e : Event) → OnState s (step_running s e)
-running_keeps s (event.Insert p f e c) = changed_to s (Rows.insert_row s.limit (under_sum s.pools) (is_some (pool_at s.pools p)) (length s.pools) f e c) (Rows.inserted f e c) (λ x. record s { pools = (p, x) ∷ s.pools }) (λ y. record { limit = refl; workers = refl })
-running_keeps s (event.Remove p) = found_then s p (λ x. permit (Rows.remove_row x s.in_wave) (record s { pools = remove_entry (nat_eq p) s.pools })) (λ x. permitted s (record s { pools = remove_entry (nat_eq p) s.pools }) (Rows.remove_row x s.in_wave) (record { limit = refl; workers = refl }))
-running_keeps s (event.BeginWave tasks) = permitted s (record s { in_wave = true; tasks = tasks; unclaimed = tasks; done = [] }) (Rows.begin_wave_row s.pools s.hands s.in_wave tasks) (record { limit = refl; workers = refl })
-running_keeps s event.EndWave = permitted s (record s { in_wave = false; tasks = []; unclaimed = []; done = [] }) (Rows.end_wave_row s.hands s.in_wave s.tasks s.done) (record { limit = refl; workers = refl })
-running_keeps s (event.Claim w) = permitted s (record s { hands = slice_set s.hands w (record (hand_at s.hands w) { task = slice_get s.unclaimed 0 }); unclaimed = drop 1 s.unclaimed }) (Rows.claim_row (hand_at s.hands w) s.unclaimed) (record { limit = refl; workers = one_hand s w (record (hand_at s.hands w) { task = slice_get s.unclaimed 0 }) })
-running_keeps s (event.PinRead w p) = found_then s p (λ x. then_state (permit (Rows.pin_read_row x (hand_at s.hands w)) (record x { stage = Rows.with_reader x.stage })) (λ y. record s { pools = front p y s.pools; hands = slice_set s.hands w (record (hand_at s.hands w) { read = Some p }); disk = s.disk })) (λ x. changed_to s (Rows.pin_read_row x (hand_at s.hands w)) (record x { stage = Rows.with_reader x.stage }) (λ y. record s { pools = front p y s.pools; hands = slice_set s.hands w (record (hand_at s.hands w) { read = Some p }); disk = s.disk }) (λ y. record { limit = refl; workers = one_hand s w (record (hand_at s.hands w) { read = Some p }) }))
-running_keeps s (event.PinWrite w p room) = found_then s p (λ x. then_state (permit (Rows.pin_write_row x (hand_at s.hands w) s.in_wave p room) (record x { stage = stage.Written room })) (λ y. record s { pools = front p y s.pools; hands = slice_set s.hands w (record (hand_at s.hands w) { written = Some p }); disk = s.disk })) (λ x. changed_to s (Rows.pin_write_row x (hand_at s.hands w) s.in_wave p room) (record x { stage = stage.Written room }) (λ y. record s { pools = front p y s.pools; hands = slice_set s.hands w (record (hand_at s.hands w) { written = Some p }); disk = s.disk }) (λ y. record { limit = refl; workers = one_hand s w (record (hand_at s.hands w) { written = Some p }) }))
-running_keeps s (event.ReloadBegin w p m) = found_then s p (λ x. then_state (permit (Rows.reload_begin_row x (hand_at s.hands w) s.in_wave p m s.disk) (record x { stage = stage.Reloading m (is_offloaded x.stage) })) (λ y. record s { pools = in_place p y s.pools; hands = slice_set s.hands w (take_pin m p (hand_at s.hands w)); disk = if is_offloaded x.stage then Some w else s.disk })) (λ x. changed_to s (Rows.reload_begin_row x (hand_at s.hands w) s.in_wave p m s.disk) (record x { stage = stage.Reloading m (is_offloaded x.stage) }) (λ y. record s { pools = in_place p y s.pools; hands = slice_set s.hands w (take_pin m p (hand_at s.hands w)); disk = if is_offloaded x.stage then Some w else s.disk }) (λ y. record { limit = refl; workers = one_hand s w (take_pin m p (hand_at s.hands w)) }))
-running_keeps s (event.ReloadEnd w p) = found_then s p (λ x. then_state (permit (Rows.reload_end_row x (hand_at s.hands w) p) (record x { stage = Rows.reloaded x.stage })) (λ y. record s { pools = front p y s.pools; hands = slice_set s.hands w (record (hand_at s.hands w) { moved = None }); disk = if moves_by_disk x.stage then None else s.disk })) (λ x. changed_to s (Rows.reload_end_row x (hand_at s.hands w) p) (record x { stage = Rows.reloaded x.stage }) (λ y. record s { pools = front p y s.pools; hands = slice_set s.hands w (record (hand_at s.hands w) { moved = None }); disk = if moves_by_disk x.stage then None else s.disk }) (λ y. record { limit = refl; workers = one_hand s w (record (hand_at s.hands w) { moved = None }) }))
-running_keeps s (event.UnpinRead w p f) = found_then s p (λ x. then_state (permit (Rows.unpin_read_row s.limit (under_sum s.pools) x (hand_at s.hands w) p f) (record x { stage = Rows.without_reader f x.stage })) (λ y. record s { pools = front p y s.pools; hands = slice_set s.hands w (record (hand_at s.hands w) { read = None }); disk = s.disk })) (λ x. changed_to s (Rows.unpin_read_row s.limit (under_sum s.pools) x (hand_at s.hands w) p f) (record x { stage = Rows.without_reader f x.stage }) (λ y. record s { pools = front p y s.pools; hands = slice_set s.hands w (record (hand_at s.hands w) { read = None }); disk = s.disk }) (λ y. record { limit = refl; workers = one_hand s w (record (hand_at s.hands w) { read = None }) }))
-running_keeps s (event.CompactBegin w p wanted) = found_then s p (λ x. then_state (permit (Rows.compact_begin_row s.limit (under_sum s.pools) (victim s.pools) x (hand_at s.hands w) p wanted) (record x { stage = stage.Compacting })) (λ y. record s { pools = in_place p y s.pools; hands = slice_set s.hands w (record (hand_at s.hands w) { moved = Some p }); disk = s.disk })) (λ x. changed_to s (Rows.compact_begin_row s.limit (under_sum s.pools) (victim s.pools) x (hand_at s.hands w) p wanted) (record x { stage = stage.Compacting }) (λ y. record s { pools = in_place p y s.pools; hands = slice_set s.hands w (record (hand_at s.hands w) { moved = Some p }); disk = s.disk }) (λ y. record { limit = refl; workers = one_hand s w (record (hand_at s.hands w) { moved = Some p }) }))
-running_keeps s (event.CompactEnd w p) = found_then s p (λ x. then_state (permit (Rows.compact_end_row x (hand_at s.hands w) p) (record x { stage = stage.Compacted })) (λ y. record s { pools = in_place p y s.pools; hands = slice_set s.hands w (record (hand_at s.hands w) { moved = None }); disk = s.disk })) (λ x. changed_to s (Rows.compact_end_row x (hand_at s.hands w) p) (record x { stage = stage.Compacted }) (λ y. record s { pools = in_place p y s.pools; hands = slice_set s.hands w (record (hand_at s.hands w) { moved = None }); disk = s.disk }) (λ y. record { limit = refl; workers = one_hand s w (record (hand_at s.hands w) { moved = None }) }))
-running_keeps s (event.OffloadBegin w p wanted) = found_then s p (λ x. then_state (permit (Rows.offload_begin_row s.limit (under_sum s.pools) (victim s.pools) x (hand_at s.hands w) p wanted s.disk) (record x { stage = stage.Offloading })) (λ y. record s { pools = in_place p y s.pools; hands = slice_set s.hands w (record (hand_at s.hands w) { moved = Some p }); disk = Some w })) (λ x. changed_to s (Rows.offload_begin_row s.limit (under_sum s.pools) (victim s.pools) x (hand_at s.hands w) p wanted s.disk) (record x { stage = stage.Offloading }) (λ y. record s { pools = in_place p y s.pools; hands = slice_set s.hands w (record (hand_at s.hands w) { moved = Some p }); disk = Some w }) (λ y. record { limit = refl; workers = one_hand s w (record (hand_at s.hands w) { moved = Some p }) }))
-running_keeps s (event.OffloadEnd w p) = found_then s p (λ x. then_state (permit (Rows.offload_end_row x (hand_at s.hands w) p) (record x { stage = stage.Offloaded })) (λ y. record s { pools = in_place p y s.pools; hands = slice_set s.hands w (record (hand_at s.hands w) { moved = None }); disk = None })) (λ x. changed_to s (Rows.offload_end_row x (hand_at s.hands w) p) (record x { stage = stage.Offloaded }) (λ y. record s { pools = in_place p y s.pools; hands = slice_set s.hands w (record (hand_at s.hands w) { moved = None }); disk = None }) (λ y. record { limit = refl; workers = one_hand s w (record (hand_at s.hands w) { moved = None }) }))
-running_keeps s (event.UnpinWrite w p f e c) = found_then s p (λ x. then_state (permit (Rows.unpin_write_row s.limit (under_sum s.pools) x (hand_at s.hands w) p f e c) (Rows.inserted f e c)) (λ y. record s { pools = front p y s.pools; hands = slice_set s.hands w (record (hand_at s.hands w) { written = None; task = if holds (hand_at s.hands w).task p then None else (hand_at s.hands w).task }); disk = s.disk; done = if holds (hand_at s.hands w).task p then s.done ++ p ∷ [] else s.done })) (λ x. changed_to s (Rows.unpin_write_row s.limit (under_sum s.pools) x (hand_at s.hands w) p f e c) (Rows.inserted f e c) (λ y. record s { pools = front p y s.pools; hands = slice_set s.hands w (record (hand_at s.hands w) { written = None; task = if holds (hand_at s.hands w).task p then None else (hand_at s.hands w).task }); disk = s.disk; done = if holds (hand_at s.hands w).task p then s.done ++ p ∷ [] else s.done }) (λ y. record { limit = refl; workers = one_hand s w (record (hand_at s.hands w) { written = None; task = if holds (hand_at s.hands w).task p then None else (hand_at s.hands w).task }) }))
+running_keeps s (event.Insert p f e c) = changed_to s (Rows.insert_row s.limit (under_sum s.pools) (is_some (pool_at s.pools p)) (length s.pools) f e c)
+    (Rows.inserted f e c) (λ x. record s { pools = (p, x) ∷ s.pools }) (λ y. record { limit = refl; workers = refl })
+running_keeps s (event.Remove p) = found_then s p (λ x. permit (Rows.remove_row x s.in_wave) (record s { pools = remove_entry (nat_eq p) s.pools }))
+    (λ x. permitted s (record s { pools = remove_entry (nat_eq p) s.pools }) (Rows.remove_row x s.in_wave) (record { limit = refl; workers = refl }))
+running_keeps s (event.BeginWave tasks) = permitted s (record s { in_wave = true; tasks = tasks; unclaimed = tasks; done = [] })
+    (Rows.begin_wave_row s.pools s.hands s.in_wave tasks) (record { limit = refl; workers = refl })
+running_keeps s event.EndWave = permitted s (record s { in_wave = false; tasks = []; unclaimed = []; done = [] })
+    (Rows.end_wave_row s.hands s.in_wave s.tasks s.done) (record { limit = refl; workers = refl })
+running_keeps s (event.Claim w) = permitted s (record s {
+  hands = slice_set s.hands w (record (hand_at s.hands w) { task = slice_get s.unclaimed 0 });
+  unclaimed
+      = drop 1 s.unclaimed;
+}) (Rows.claim_row (hand_at s.hands w) s.unclaimed)
+    (record { limit = refl; workers = one_hand s w (record (hand_at s.hands w) { task = slice_get s.unclaimed 0 }) })
+running_keeps s (event.PinRead w p) = found_then s p (λ x. then_state
+    (permit (Rows.pin_read_row x (hand_at s.hands w)) (record x { stage = Rows.with_reader x.stage }))
+    (λ y. record s { pools = front p y s.pools; hands = slice_set s.hands w (record (hand_at s.hands w) { read = Some p }); disk = s.disk }))
+    (λ x. changed_to s (Rows.pin_read_row x (hand_at s.hands w)) (record x { stage = Rows.with_reader x.stage })
+    (λ y. record s { pools = front p y s.pools; hands = slice_set s.hands w (record (hand_at s.hands w) { read = Some p }); disk = s.disk })
+    (λ y. record { limit = refl; workers = one_hand s w (record (hand_at s.hands w) { read = Some p }) }))
+running_keeps s (event.PinWrite w p room) = found_then s p (λ x. then_state
+    (permit (Rows.pin_write_row x (hand_at s.hands w) s.in_wave p room) (record x { stage = stage.Written room }))
+    (λ y. record s { pools = front p y s.pools; hands = slice_set s.hands w (record (hand_at s.hands w) { written = Some p }); disk = s.disk }))
+    (λ x. changed_to s (Rows.pin_write_row x (hand_at s.hands w) s.in_wave p room) (record x { stage = stage.Written room })
+    (λ y. record s { pools = front p y s.pools; hands = slice_set s.hands w (record (hand_at s.hands w) { written = Some p }); disk = s.disk })
+    (λ y. record { limit = refl; workers = one_hand s w (record (hand_at s.hands w) { written = Some p }) }))
+running_keeps s (event.ReloadBegin w p m) = found_then s p (λ x. then_state
+    (permit (Rows.reload_begin_row x (hand_at s.hands w) s.in_wave p m s.disk) (record x { stage = stage.Reloading m (is_offloaded x.stage) }))
+    (λ y. record s {
+      pools = in_place p y s.pools;
+      hands = slice_set s.hands w (take_pin m p (hand_at s.hands w));
+      disk = if is_offloaded x.stage then Some w
+          else s.disk;
+    })) (λ x. changed_to s (Rows.reload_begin_row x (hand_at s.hands w) s.in_wave p m s.disk)
+    (record x { stage = stage.Reloading m (is_offloaded x.stage) })
+    (λ y. record s {
+      pools = in_place p y s.pools;
+      hands = slice_set s.hands w (take_pin m p (hand_at s.hands w));
+      disk = if is_offloaded x.stage then Some w
+          else s.disk;
+    }) (λ y. record { limit = refl; workers = one_hand s w (take_pin m p (hand_at s.hands w)) }))
+running_keeps s (event.ReloadEnd w p) = found_then s p (λ x. then_state
+    (permit (Rows.reload_end_row x (hand_at s.hands w) p) (record x { stage = Rows.reloaded x.stage }))
+    (λ y. record s {
+      pools = front p y s.pools;
+      hands = slice_set s.hands w (record (hand_at s.hands w) { moved = None });
+      disk = if moves_by_disk x.stage
+          then None else s.disk;
+    })) (λ x. changed_to s (Rows.reload_end_row x (hand_at s.hands w) p) (record x { stage = Rows.reloaded x.stage })
+    (λ y. record s {
+      pools = front p y s.pools;
+      hands = slice_set s.hands w (record (hand_at s.hands w) { moved = None });
+      disk = if moves_by_disk x.stage
+          then None else s.disk;
+    }) (λ y. record { limit = refl; workers = one_hand s w (record (hand_at s.hands w) { moved = None }) }))
+running_keeps s (event.UnpinRead w p f) = found_then s p (λ x. then_state
+    (permit (Rows.unpin_read_row s.limit (under_sum s.pools) x (hand_at s.hands w) p f) (record x { stage = Rows.without_reader f x.stage }))
+    (λ y. record s { pools = front p y s.pools; hands = slice_set s.hands w (record (hand_at s.hands w) { read = None }); disk = s.disk }))
+    (λ x. changed_to s (Rows.unpin_read_row s.limit (under_sum s.pools) x (hand_at s.hands w) p f) (record x { stage = Rows.without_reader f x.stage })
+    (λ y. record s { pools = front p y s.pools; hands = slice_set s.hands w (record (hand_at s.hands w) { read = None }); disk = s.disk })
+    (λ y. record { limit = refl; workers = one_hand s w (record (hand_at s.hands w) { read = None }) }))
+running_keeps s (event.CompactBegin w p wanted) = found_then s p
+    (λ x. then_state (permit (Rows.compact_begin_row s.limit (under_sum s.pools) (victim s.pools) x (hand_at s.hands w) p wanted)
+    (record x { stage = stage.Compacting })) (λ y. record s {
+      pools = in_place p y s.pools;
+      hands = slice_set s.hands w
+          (record (hand_at s.hands w) { moved = Some p });
+      disk = s.disk;
+    }))
+    (λ x. changed_to s (Rows.compact_begin_row s.limit (under_sum s.pools) (victim s.pools) x (hand_at s.hands w) p wanted)
+    (record x { stage = stage.Compacting }) (λ y. record s {
+      pools = in_place p y s.pools;
+      hands = slice_set s.hands w
+          (record (hand_at s.hands w) { moved = Some p });
+      disk = s.disk;
+    })
+    (λ y. record { limit = refl; workers = one_hand s w (record (hand_at s.hands w) { moved = Some p }) }))
+running_keeps s (event.CompactEnd w p) = found_then s p (λ x. then_state
+    (permit (Rows.compact_end_row x (hand_at s.hands w) p) (record x { stage = stage.Compacted }))
+    (λ y. record s { pools = in_place p y s.pools; hands = slice_set s.hands w (record (hand_at s.hands w) { moved = None }); disk = s.disk }))
+    (λ x. changed_to s (Rows.compact_end_row x (hand_at s.hands w) p) (record x { stage = stage.Compacted })
+    (λ y. record s { pools = in_place p y s.pools; hands = slice_set s.hands w (record (hand_at s.hands w) { moved = None }); disk = s.disk })
+    (λ y. record { limit = refl; workers = one_hand s w (record (hand_at s.hands w) { moved = None }) }))
+running_keeps s (event.OffloadBegin w p wanted) = found_then s p
+    (λ x. then_state (permit (Rows.offload_begin_row s.limit (under_sum s.pools) (victim s.pools) x (hand_at s.hands w) p wanted s.disk)
+    (record x { stage = stage.Offloading })) (λ y. record s {
+      pools = in_place p y s.pools;
+      hands = slice_set s.hands w
+          (record (hand_at s.hands w) { moved = Some p });
+      disk = Some w;
+    }))
+    (λ x. changed_to s (Rows.offload_begin_row s.limit (under_sum s.pools) (victim s.pools) x (hand_at s.hands w) p wanted s.disk)
+    (record x { stage = stage.Offloading }) (λ y. record s {
+      pools = in_place p y s.pools;
+      hands = slice_set s.hands w
+          (record (hand_at s.hands w) { moved = Some p });
+      disk = Some w;
+    })
+    (λ y. record { limit = refl; workers = one_hand s w (record (hand_at s.hands w) { moved = Some p }) }))
+running_keeps s (event.OffloadEnd w p) = found_then s p (λ x. then_state
+    (permit (Rows.offload_end_row x (hand_at s.hands w) p) (record x { stage = stage.Offloaded }))
+    (λ y. record s { pools = in_place p y s.pools; hands = slice_set s.hands w (record (hand_at s.hands w) { moved = None }); disk = None }))
+    (λ x. changed_to s (Rows.offload_end_row x (hand_at s.hands w) p) (record x { stage = stage.Offloaded })
+    (λ y. record s { pools = in_place p y s.pools; hands = slice_set s.hands w (record (hand_at s.hands w) { moved = None }); disk = None })
+    (λ y. record { limit = refl; workers = one_hand s w (record (hand_at s.hands w) { moved = None }) }))
+running_keeps s (event.UnpinWrite w p f e c) = found_then s p
+    (λ x. then_state (permit (Rows.unpin_write_row s.limit (under_sum s.pools) x (hand_at s.hands w) p f e c) (Rows.inserted f e c))
+    (λ y. record s {
+      pools = front p y s.pools;
+      hands = slice_set s.hands w
+          (record (hand_at s.hands w) { written = None; task = if holds (hand_at s.hands w).task p then None else (hand_at s.hands w).task });
+      disk = s.disk;
+      done =
+          if holds (hand_at s.hands w).task p then s.done ++ p ∷ [] else s.done;
+    }))
+    (λ x. changed_to s (Rows.unpin_write_row s.limit (under_sum s.pools) x (hand_at s.hands w) p f e c) (Rows.inserted f e c)
+    (λ y. record s {
+      pools = front p y s.pools;
+      hands = slice_set s.hands w
+          (record (hand_at s.hands w) { written = None; task = if holds (hand_at s.hands w).task p then None else (hand_at s.hands w).task });
+      disk = s.disk;
+      done =
+          if holds (hand_at s.hands w).task p then s.done ++ p ∷ [] else s.done;
+    })
+    (λ y. record {
+      limit = refl;
+      workers = one_hand s w (record (hand_at s.hands w)
+          { written = None; task = if holds (hand_at s.hands w).task p then None else (hand_at s.hands w).task });
+    }))
 running_keeps s (event.Fail w f) = record { limit = refl; workers = refl }
 
 step_keeps : (s : Core) (e : Event) → OnState s (step_of s e)

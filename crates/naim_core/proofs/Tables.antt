@@ -1,5 +1,6 @@
 -- A table stays one, after a slot's content has changed.
-use Rattle.std.proofs.Common.{◌≡◌, ◌≢◌, ℕ, zero, suc, ◌+◌, ◌<◌, ◌≤◌, ◌^◌, Bool, true, false, cond, nat_eq, List, [], ◌∷◌, ◌++◌, length, length-append, Option, Some, None, IsSome, refl, sym, ap, subst, arith, ◌∙◌, sum_by, ◌⊎◌, inl, inr, reverse}
+use Rattle.std.proofs.Common.{◌≡◌, ◌≢◌, ℕ, zero, suc, ◌+◌, ◌<◌, ◌≤◌, ◌^◌, Bool, true, false, cond, nat_eq, List, [], ◌∷◌, ◌++◌, length, length-append}
+use Rattle.std.proofs.Common.{Option, Some, None, IsSome, refl, sym, ap, subst, arith, ◌∙◌, sum_by, ◌⊎◌, inl, inr, reverse}
 use Rattle.std.specs.Cmp.{nat_eq_equiv}
 use Rattle.std.specs.List.{IsDistinct, AllByRecursion, slice_get, slice_set}
 use Rattle.std.specs.Option.{option_and_then, option_map}
@@ -13,7 +14,8 @@ use Rattle.std.proofs.lemmas.Option.{same_Some}
 use Rattle.naim_core.specs.Charges.{under_part, held_part, under_sum, held_sum}
 use Rattle.naim_core.specs.Table.{Place, Order, pools_in, pid_at, IsFound, IsOrder, IsIndexed, IsSpare, IsTable}
 use Rattle.naim_core.specs.declared.pool.Pool.{Pool}
-use Rattle.list_laws.proofs.Entries.{same_number, other_number, number_itself, lookup_front, lookup_set, lookup_removed, distinct_front, distinct_set, distinct_removed, sum_removed, length_removed, apart_from_none, none_left}
+use Rattle.list_laws.proofs.Entries.{same_number, other_number, number_itself, lookup_front, lookup_set, lookup_removed, distinct_front, distinct_set}
+use Rattle.list_laws.proofs.Entries.{distinct_removed, sum_removed, length_removed, apart_from_none, none_left}
 use Rattle.naim_core.proofs.Places.{slot_found, removed_pool, set_pool, removed_empty}
 
 -- what a look-up finds after the content at i has become v
@@ -54,7 +56,8 @@ spare_changed i p x y old new stack was at slots len = record {
 }
 
 -- the content of a pool has changed, and it went to the front
-pub table_front : (i p : ℕ) (x y : Pool) (old : Order) (index : List (Option ℕ)) (spare : List ℕ) (room u h u' h' : ℕ) → IsTable old index spare room u h → h' < 2 ^ 64 →
+pub table_front : (i p : ℕ) (x y : Pool) (old : Order) (index : List (Option ℕ)) (spare : List ℕ) (room u h u' h' : ℕ) → IsTable old index spare room u h
+    → h' < 2 ^ 64 →
     lookup (nat_eq i) old ≡ Some (Some (p, x)) → u' + under_part x ≡ u + under_part y → h' + held_part x ≡ h + held_part y →
     IsTable ((i, Some (p, y)) ∷ remove_entry (nat_eq i) old) index spare room u' h'
 table_front i p x y old index spare room u h u' h' t fits at du dh =
@@ -74,14 +77,17 @@ table_front i p x y old index spare room u h u' h' t fits at du dh =
       spares = spare_changed i p x y old new (reverse spare) t.spares at slots len;
       room_fits = t.room_fits;
       under_is = (let a : sum_by under_part (values_of (pools_in new)) ≡ sum_by under_part (y ∷ values_of (remove_entry (nat_eq p) ps)) = ap under_sum is in
-          let k = sum_by-cons under_part y (values_of (remove_entry (nat_eq p) ps)) in let b = sum_removed under_part p x ps there in let c = t.under_is in omega arith);
+          let k = sum_by-cons under_part y (values_of (remove_entry (nat_eq p) ps)) in let b = sum_removed under_part p x ps there in let c = t.under_is
+          in omega arith);
       held_fits = fits;
       held_is = (let a : sum_by held_part (values_of (pools_in new)) ≡ sum_by held_part (y ∷ values_of (remove_entry (nat_eq p) ps)) = ap held_sum is in
-          let k = sum_by-cons held_part y (values_of (remove_entry (nat_eq p) ps)) in let b = sum_removed held_part p x ps there in let c = t.held_is in omega arith);
+          let k = sum_by-cons held_part y (values_of (remove_entry (nat_eq p) ps)) in let b = sum_removed held_part p x ps there in let c = t.held_is
+          in omega arith);
     }
 
 -- the content of a pool has changed in its place
-pub table_set : (i p : ℕ) (x y : Pool) (old : Order) (index : List (Option ℕ)) (spare : List ℕ) (room u h u' h' : ℕ) → IsTable old index spare room u h → h' < 2 ^ 64 →
+pub table_set : (i p : ℕ) (x y : Pool) (old : Order) (index : List (Option ℕ)) (spare : List ℕ) (room u h u' h' : ℕ) → IsTable old index spare room u h
+    → h' < 2 ^ 64 →
     lookup (nat_eq i) old ≡ Some (Some (p, x)) → u' + under_part x ≡ u + under_part y → h' + held_part x ≡ h + held_part y →
     IsTable (set_value (nat_eq i) old (Some (p, y))) index spare room u' h'
 table_set i p x y old index spare room u h u' h' t fits at du dh =
@@ -108,16 +114,26 @@ table_set i p x y old index spare room u h u' h' t fits at du dh =
     }
 
 -- the element at a place of a list after a write
-get_written : {X : Type 0} (xs : List X) (p q : ℕ) (v w : X) → slice_get (slice_set xs p v) q ≡ Some w → ((q ≡ p) × (v ≡ w)) ⊎ ((nat_eq q p ≡ false) × (slice_get xs q ≡ Some w))
+get_written : {X : Type 0} (xs : List X) (p q : ℕ) (v w : X) → slice_get (slice_set xs p v) q ≡ Some w
+    → ((q ≡ p) × (v ≡ w)) ⊎ ((nat_eq q p ≡ false) × (slice_get xs q ≡ Some w))
 get_written [] p q v w h = cc
 get_written (x ∷ xs) zero zero v w h = inl (refl, same_Some v w h)
 get_written (x ∷ xs) zero (suc q) v w h = inr (other_number (suc q) 0 (λ e. omega arith), h)
 get_written (x ∷ xs) (suc p) zero v w h = inr (other_number 0 (suc p) (λ e. omega arith), h)
-get_written (x ∷ xs) (suc p) (suc q) v w h = elim (get_written xs p q v w h) [ inl y ↦ inl (ap suc y.0, y.1) | inr n ↦ inr (other_number (suc q) (suc p) (λ e. let k : q ≡ p = omega arith in let y : nat_eq q p ≡ true = ap (nat_eq q) (sym k) ∙ number_itself q in cc), n.1) ]
+get_written (x ∷ xs) (suc p) (suc q) v w h = elim (get_written xs p q v w h) [
+  | inl y ↦ inl (ap suc y.0, y.1)
+  | inr n ↦ inr (
+    other_number (suc q) (suc p)
+        (λ e. let k : q ≡ p = omega arith in let y : nat_eq q p ≡ true = ap (nat_eq q) (sym k) ∙ number_itself q in cc),
+    n.1,
+  )
+]
 
 -- a pool that was absent has the slot i, which was empty, and stands first
-pub table_added : (i p : ℕ) (x : Pool) (old : Order) (index : List (Option ℕ)) (rest : List ℕ) (room room' u h : ℕ) → IsTable old index (rest ++ i ∷ []) room u h → 4096 ≤ room' → h + held_part x < 2 ^ 64 →
-    lookup (nat_eq p) (pools_in old) ≡ None → IsTable ((i, Some (p, x)) ∷ remove_entry (nat_eq i) old) (slice_set index p (Some i)) rest room' (u + under_part x) (h + held_part x)
+pub table_added : (i p : ℕ) (x : Pool) (old : Order) (index : List (Option ℕ)) (rest : List ℕ) (room room' u h : ℕ)
+    → IsTable old index (rest ++ i ∷ []) room u h → 4096 ≤ room' → h + held_part x < 2 ^ 64 →
+    lookup (nat_eq p) (pools_in old) ≡ None
+    → IsTable ((i, Some (p, x)) ∷ remove_entry (nat_eq i) old) (slice_set index p (Some i)) rest room' (u + under_part x) (h + held_part x)
 table_added i p x old index rest room room' u h t room_fits fits none =
     let ps = pools_in old in
     let stack : reverse (rest ++ i ∷ []) ≡ i ∷ reverse rest = reverse-append rest (i ∷ []) in
@@ -130,7 +146,8 @@ table_added i p x old index rest room room' u h t room_fits fits none =
     record {
       slots = record {
         slots_differ = distinct_front i (Some (p, x)) old t.slots.slots_differ;
-        pids_differ = subst (λ l. IsDistinct nat_eq (keys_of l)) (sym is) (IsDistinct-cons nat_eq p (keys_of ps) (apart_from_none p ps none) t.slots.pids_differ);
+        pids_differ = subst (λ l. IsDistinct nat_eq (keys_of l)) (sym is)
+            (IsDistinct-cons nat_eq p (keys_of ps) (apart_from_none p ps none) t.slots.pids_differ);
       };
       indexed = record {
         missing = λ q m. elim (get_written index p q (Some i) None m) [
@@ -165,7 +182,8 @@ table_added i p x old index rest room room' u h t room_fits fits none =
     }
 
 -- a pool has gone, and its slot is empty
-pub table_removed : (i p : ℕ) (x : Pool) (old : Order) (index : List (Option ℕ)) (spare : List ℕ) (room room' u h u' h' : ℕ) → IsTable old index spare room u h → 4096 ≤ room' →
+pub table_removed : (i p : ℕ) (x : Pool) (old : Order) (index : List (Option ℕ)) (spare : List ℕ) (room room' u h u' h' : ℕ) → IsTable old index spare room u h
+    → 4096 ≤ room' →
     lookup (nat_eq i) old ≡ Some (Some (p, x)) → u' + under_part x ≡ u → h' + held_part x ≡ h →
     IsTable ((i, None) ∷ remove_entry (nat_eq i) old) (slice_set index p None) (spare ++ i ∷ []) room' u' h'
 table_removed i p x old index spare room room' u h u' h' t room_fits at du dh =
@@ -174,7 +192,8 @@ table_removed i p x old index spare room room' u h u' h' t room_fits at du dh =
     let new : Order = (i, None) ∷ remove_entry (nat_eq i) old in
     let is : pools_in new ≡ remove_entry (nat_eq p) ps = removed_pool i p x old t.slots.pids_differ at in
     let slots : Changed i None old new = λ q. lookup_front i q None old t.slots.slots_differ in
-    let pools : (q : ℕ) → lookup (nat_eq q) (pools_in new) ≡ cond (nat_eq p q) None (lookup (nat_eq q) ps) = λ q. ap (λ l. lookup (nat_eq q) l) is ∙ lookup_removed p q ps t.slots.pids_differ in
+    let pools : (q : ℕ) → lookup (nat_eq q) (pools_in new) ≡ cond (nat_eq p q) None (lookup (nat_eq q) ps) = λ q. ap (λ l. lookup (nat_eq q) l) is ∙
+    lookup_removed p q ps t.slots.pids_differ in
     let stack : reverse (spare ++ i ∷ []) ≡ i ∷ reverse spare = reverse-append spare (i ∷ []) in
     let not_i : (j : ℕ) → lookup (nat_eq j) old ≡ Some None → nat_eq i j ≡ false = λ j e. other_number i j (λ same.
     let c : Some (Some (p, x)) ≡ Some None = sym at ∙ (ap (λ k. lookup (nat_eq k) old) same ∙ e) in cc) in
@@ -218,10 +237,12 @@ table_removed i p x old index spare room room' u h u' h' t room_fits at du dh =
     }
 
 -- what `found_at` tells, once it is known what it found
-pub found_in : (order : Order) (p : ℕ) (found : Option (ℕ × Pool)) (at : ℕ × Pool) → IsFound order p found → found ≡ Some at → lookup (nat_eq at.0) order ≡ Some (Some (p, at.1))
+pub found_in : (order : Order) (p : ℕ) (found : Option (ℕ × Pool)) (at : ℕ × Pool) → IsFound order p found → found ≡ Some at
+    → lookup (nat_eq at.0) order ≡ Some (Some (p, at.1))
 found_in order p found at f e = let P : Option (ℕ × Pool) → Type 0 = λ o. IsFound order p o in subst P e f
 
-pub found_pool : (order : Order) (p : ℕ) (found : Option (ℕ × Pool)) → IsOrder order → IsFound order p found → option_map (λ at. at.1) found ≡ lookup (nat_eq p) (pools_in order)
+pub found_pool : (order : Order) (p : ℕ) (found : Option (ℕ × Pool)) → IsOrder order → IsFound order p found
+    → option_map (λ at. at.1) found ≡ lookup (nat_eq p) (pools_in order)
 found_pool order p None o f = sym f
 found_pool order p (Some at) o f = sym (slot_found at.0 p at.1 order o.pids_differ f)
 
@@ -231,16 +252,22 @@ is_found order p None f h = rw f at h
 is_found order p (Some at) f h = refl
 
 -- no part is above its sum
-pub under_there : (i p : ℕ) (x : Pool) (order : Order) (index : List (Option ℕ)) (spare : List ℕ) (room u h : ℕ) → IsTable order index spare room u h → lookup (nat_eq i) order ≡ Some (Some (p, x)) → under_part x ≤ u
-under_there i p x order index spare room u h t at = let e = sum_removed under_part p x (pools_in order) (slot_found i p x order t.slots.pids_differ at) in let k = t.under_is in omega arith
+pub under_there : (i p : ℕ) (x : Pool) (order : Order) (index : List (Option ℕ)) (spare : List ℕ) (room u h : ℕ) → IsTable order index spare room u h
+    → lookup (nat_eq i) order ≡ Some (Some (p, x)) → under_part x ≤ u
+under_there i p x order index spare room u h t at = let e = sum_removed under_part p x (pools_in order) (slot_found i p x order t.slots.pids_differ at) in let k
+    = t.under_is in omega arith
 
-pub held_there : (i p : ℕ) (x : Pool) (order : Order) (index : List (Option ℕ)) (spare : List ℕ) (room u h : ℕ) → IsTable order index spare room u h → lookup (nat_eq i) order ≡ Some (Some (p, x)) → held_part x ≤ h
-held_there i p x order index spare room u h t at = let e = sum_removed held_part p x (pools_in order) (slot_found i p x order t.slots.pids_differ at) in let k = t.held_is in omega arith
+pub held_there : (i p : ℕ) (x : Pool) (order : Order) (index : List (Option ℕ)) (spare : List ℕ) (room u h : ℕ) → IsTable order index spare room u h
+    → lookup (nat_eq i) order ≡ Some (Some (p, x)) → held_part x ≤ h
+held_there i p x order index spare room u h t at = let e = sum_removed held_part p x (pools_in order) (slot_found i p x order t.slots.pids_differ at) in let k =
+    t.held_is in omega arith
 
 -- an empty slot is next
-pub spare_next : (i p : ℕ) (order : Order) (index : List (Option ℕ)) (rest : List ℕ) (room u h : ℕ) → IsTable order index (rest ++ i ∷ []) room u h → lookup (nat_eq i) order ≡ Some None
+pub spare_next : (i p : ℕ) (order : Order) (index : List (Option ℕ)) (rest : List ℕ) (room u h : ℕ) → IsTable order index (rest ++ i ∷ []) room u h
+    → lookup (nat_eq i) order ≡ Some None
 spare_next i p order index rest room u h t = (subst (IsSpare order) (reverse-append rest (i ∷ [])) t.spares).empty.0
 
 -- the content of a slot with the PID p
-pub slot_pid : (order : Order) (i p q : ℕ) (x : Pool) → lookup (nat_eq i) order ≡ Some (Some (q, x)) → pid_at order i ≡ Some p → lookup (nat_eq i) order ≡ Some (Some (p, x))
+pub slot_pid : (order : Order) (i p q : ℕ) (x : Pool) → lookup (nat_eq i) order ≡ Some (Some (q, x)) → pid_at order i ≡ Some p
+    → lookup (nat_eq i) order ≡ Some (Some (p, x))
 slot_pid order i p q x at pid = let k = rw at at pid in let e : q ≡ p = same_Some q p k in at ∙ ap (λ r. Some (Some (r, x))) e

@@ -1,4 +1,5 @@
 pub mod Charges
+pub mod Links
 pub mod Rows
 pub mod Sound
 pub mod State

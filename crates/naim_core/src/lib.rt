@@ -9,6 +9,7 @@ mod checks;
 mod event;
 mod history;
 mod pool;
+mod ring;
 mod scratch;
 mod state;
 mod table;

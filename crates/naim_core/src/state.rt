@@ -1,10 +1,15 @@
 //! The state and its events.
-ghost use Rattle.std.specs.Prelude.{◌≡◌, ◌+◌, ◌<◌, ◌≤◌, ◌^◌, ◌++◌, ◌∷◌, [], length, slice_get, slice_set, option_map, option_copied, false, is_none, IfOk, IsSome, Some, None};
+ghost use Rattle.std.specs.Prelude.{◌≡◌, ◌+◌, ◌<◌, ◌≤◌, ◌^◌, ◌++◌, ◌∷◌, [], length, slice_get, slice_set, option_map, option_copied, true, false};
+ghost use Rattle.std.specs.Prelude.{is_none, IfOk, IsSome, Some, None};
 ghost use Rattle.std.specs.List.{list_any, list_all};
 ghost use Rattle.naim_core.specs.Charges.{under_sum, held_sum};
 ghost use Rattle.naim_core.specs.Sound.{IsSound, RecordsApart};
-ghost use Rattle.naim_core.specs.State.{start, pool_at, hand_at, has_repeat, is_empty_hand, record_place, victim, view_of};
-ghost use Rattle.naim_core.specs.Steps.{front, in_place, take_pin, failed, Follows, NamesWorker, step_of, step_running, begin_wave_step, end_wave_step, insert_step, remove_step, claim_step, pin_read_step, pin_write_step, reload_begin_step, reload_end_step, unpin_read_step, unpin_write_step, compact_begin_step, compact_end_step, offload_begin_step, offload_end_step};
+ghost use Rattle.naim_core.specs.State.{start, pool_at, hand_at, has_repeat, is_empty_hand, record_place, victim, view_of, is_free};
+ghost use Rattle.naim_core.specs.Table.{is_resident};
+ghost use Rattle.std.specs.Option.{option_map_or};
+ghost use Rattle.naim_core.specs.Steps.{front, in_place, take_pin, failed, Follows, NamesWorker, step_of, step_running, begin_wave_step, end_wave_step};
+ghost use Rattle.naim_core.specs.Steps.{insert_step, remove_step, claim_step, pin_read_step, pin_write_step, reload_begin_step, reload_end_step};
+ghost use Rattle.naim_core.specs.Steps.{unpin_read_step, unpin_write_step, compact_begin_step, compact_end_step, offload_begin_step, offload_end_step};
 
 use crate::checks;
 use crate::event::{Event, Failure, Form, Mode, Refusal};
@@ -114,6 +119,8 @@ impl CoreState {
         requires worker { worker < length self.old.hands }
         requires present { IsSome (pool_at self.old.pools pid) }
         requires task { hand.task ≡ (hand_at self.old.hands worker).task }
+        requires pinned { is_free pool.stage ≡ false }
+        requires resident { is_resident pool.stage ≡ true → option_map_or (λ x. is_resident x.stage) (pool_at self.old.pools pid) false ≡ true }
         requires sound { IsSound (record self.old { pools = in_place pid pool self.old.pools; hands = slice_set self.old.hands worker hand; disk = disk }) }
         ensures { self.new ≡ record self.old { pools = in_place pid pool self.old.pools; hands = slice_set self.old.hands worker hand; disk = disk } }
     {
@@ -128,8 +135,16 @@ impl CoreState {
         requires present { IsSome (pool_at self.old.pools pid) }
         requires task { (hand_at self.old.hands worker).task ≡ Some pid }
         requires left { hand.task ≡ None }
-        requires sound { IsSound (record self.old { pools = front pid pool self.old.pools; hands = slice_set self.old.hands worker hand; done = self.old.done ++ pid ∷ [] }) }
-        ensures { self.new ≡ record self.old { pools = front pid pool self.old.pools; hands = slice_set self.old.hands worker hand; done = self.old.done ++ pid ∷ [] } }
+        requires sound { IsSound (record self.old {
+          pools = front pid pool self.old.pools;
+          hands = slice_set self.old.hands worker hand;
+          done = self.old.done ++ pid ∷ [];
+        }) }
+        ensures { self.new ≡ record self.old {
+          pools = front pid pool self.old.pools;
+          hands = slice_set self.old.hands worker hand;
+          done = self.old.done ++ pid ∷ [];
+        } }
     {
         self.pools.put_first(pid, pool);
         self.hands[worker as usize] = hand;
@@ -566,8 +581,8 @@ impl CoreState {
     }
 
     /// Takes the event, or refuses it and changes nothing. It takes no memory, and a time that does not
-    /// grow with the number of pools, but for `BeginWave`, which sorts its tasks, and for `CompactBegin`
-    /// and `OffloadBegin`, which look for the victim as [`CoreState::victim`] does.
+    /// grow with the number of pools, but for `BeginWave`, which sorts its tasks. `CompactBegin` and
+    /// `OffloadBegin` look for the victim as [`CoreState::victim`] does.
     ///
     /// After every event, taken or refused, the state is sound.
     pub fn step(&mut self, event: Event) -> Result<(), Refusal>
@@ -636,8 +651,9 @@ impl CoreState {
     }
 
     /// The pool that is to leave next: the free expanded one that is last in the use order, or, where
-    /// there is none, the compacted one that is last. `None` exactly where there is neither. It goes
-    /// over the slots from the end of the use order to that free pool, or over all where none is free.
+    /// there is none, the compacted one that is last. `None` exactly where there is neither. It looks at
+    /// the last free pool alone; where there is none, it passes those that are pinned or being compacted,
+    /// of which each worker has three at most. So its time grows with the workers, and not with the pools.
     pub fn victim(&self) -> Option<u32>
         ensures { result ≡ victim self.now.pools }
     {

@@ -1,13 +1,15 @@
 //! The pools in their use order.
-ghost use Rattle.std.specs.Prelude.{◌≡◌, ◌+◌, ◌<◌, ◌≤◌, ◌^◌, ◌∷◌, [], nat_eq, length, slice_set, is_none, None, IsSome, IfOk};
+ghost use Rattle.std.specs.Prelude.{◌≡◌, ◌+◌, ◌<◌, ◌≤◌, ◌^◌, ◌∷◌, [], true, false, nat_eq, length, slice_set, reverse, is_none, None, IsSome, IfOk};
 ghost use Rattle.std.specs.List.{list_any};
-ghost use Rattle.std.specs.Map.{remove_entry};
+ghost use Rattle.std.specs.Map.{lookup, remove_entry};
+ghost use Rattle.std.specs.Option.{option_map_or};
 ghost use Rattle.naim_core.specs.Charges.{under_sum, held_sum, under_part, held_part};
-ghost use Rattle.naim_core.specs.State.{pool_at, victim};
+ghost use Rattle.naim_core.specs.State.{pool_at, victim, is_free};
 ghost use Rattle.naim_core.specs.Steps.{front, in_place};
-ghost use Rattle.naim_core.specs.Table.{IsFound, IsIndexed, IsOrder};
+ghost use Rattle.naim_core.specs.Table.{IsFound, IsIndexed, IsOrder, RingSlots, first_at, is_resident, pid_if, wanted};
 
 use crate::pool::Pool;
+use crate::ring::{ENDS, Ring};
 use lru::LruCache;
 use std::alloc::{AllocError, Global};
 use std::marker::Model;
@@ -32,6 +34,11 @@ pub(crate) struct Table {
     index: Vec<Option<u16>>,
     /// The empty slots.
     spare: Vec<u16>,
+    /// The slots of the free pools, in the use order.
+    free: Ring,
+    /// The slots of the pools that are expanded, compacted, or on their way from the one to the other,
+    /// in the use order.
+    resident: Ring,
     /// The bytes that count against the limit, over all pools.
     under: u64,
     /// The bytes that workers hold, over all pools.
@@ -44,11 +51,12 @@ impl Model for Table {
 
     ghost Value = { List (ℕ × PoolRecord) };
 
-    ghost use Rattle.naim_core.specs.Table.{pools_in, IsTable};
+    ghost use Rattle.naim_core.specs.Table.{pools_in, IsTable, AreRings};
 
     ghost view = { λ t. pools_in t.order.entries };
 
-    ghost invariant = { λ t. IsTable t.order.entries t.index.items t.spare.items (vec_capacity t.spare) t.under t.held };
+    ghost invariant = { λ t. IsTable t.order.entries t.index.items t.spare.items (vec_capacity t.spare) t.under t.held × AreRings t.order.entries
+        t.free t.resident };
 }
 
 /// The slot of the pool `pid` and the pool. It takes constant time for a PID below [`INDEXED`], and
@@ -100,6 +108,38 @@ fn changed(sum: u64, old: u64, new: u64) -> u64
     sum - old + new
 }
 
+/// The PID of the pool in a slot, if it is compacted, where `compacted`, and else if it is free.
+fn pid_in(order: &LruCache<u16, Place>, slot: u16, compacted: bool) -> Option<u32>
+    ensures { result ≡ pid_if (wanted compacted) (lookup (nat_eq slot) order.now.entries) }
+{
+    let (pid, pool) = (*order.peek(&slot)?)?;
+    let passes = if compacted {
+        pool.stage.is_compacted()
+    } else {
+        pool.stage.is_free()
+    };
+    passes.then_some(pid)
+}
+
+/// The PID of the last such pool in the ring. It goes over the slots that come after it.
+fn last_in(order: &LruCache<u16, Place>, ring: &Ring, compacted: bool) -> Option<u32>
+    requires { RingSlots ring.now }
+    ensures { (in_ring : RingSlots ring.now) → result ≡ first_at (wanted compacted) order.now.entries (reverse in_ring.slots) }
+{
+    let mut slot = ring.before(ENDS);
+    for _ in 0..SLOTS {
+        if slot == ENDS {
+            return None;
+        }
+        let found = pid_in(order, slot, compacted);
+        if found.is_some() {
+            return found;
+        }
+        slot = ring.before(slot);
+    }
+    None
+}
+
 impl Table {
     /// No pools. It reserves all that the table ever takes.
     pub(crate) fn new(alloc: Global) -> Result<Table, AllocError>
@@ -113,10 +153,14 @@ impl Table {
             spare.push(slot)?;
         }
         let index = vec![in alloc; None; INDEXED]?;
+        let free = Ring::new(alloc)?;
+        let resident = Ring::new(alloc)?;
         Ok(Table {
             order,
             index,
             spare,
+            free,
+            resident,
             under: 0,
             held: 0,
         })
@@ -158,33 +202,35 @@ impl Table {
         self.held
     }
 
-    /// The pool that is to leave next; `None` exactly where no pool is free or compacted. It goes over
-    /// the slots from the last used back to the last free pool, or over all where no pool is free.
+    /// The pool that is to leave next; `None` exactly where no pool is free or compacted. It looks at the
+    /// last free pool alone; where there is none, it goes over the resident pools from the last one to the
+    /// first that is compacted, and passes those that are pinned or being compacted.
     pub(crate) fn victim(&self) -> Option<u32>
         ensures { result ≡ victim self.now }
     {
-        let mut compacted = None;
-        for (_, place) in self.order.iter().rev() {
-            if let Some((pid, pool)) = place {
-                if pool.stage.is_free() {
-                    return Some(*pid);
-                }
-                compacted = compacted.or(pool.stage.is_compacted().then_some(*pid));
-            }
+        let free = last_in(&self.order, &self.free, false);
+        if free.is_some() {
+            return free;
         }
-        compacted
+        last_in(&self.order, &self.resident, true)
     }
 
-    /// Gives the pool `pid` this content, and leaves it in its place.
+    /// Gives the pool `pid` this content, and leaves it in its place. A pool becomes free or resident
+    /// elsewhere.
     pub(crate) fn put(&mut self, pid: u32, pool: Pool)
         requires present { IsSome (pool_at self.old pid) }
         requires under_fits { under_sum self.old + under_part pool < 2 ^ 64 }
+        requires pinned { is_free pool.stage ≡ false }
+        requires resident { is_resident pool.stage ≡ true → option_map_or (λ x. is_resident x.stage) (pool_at self.old pid) false ≡ true }
         requires held_fits { held_sum self.old + held_part pool < 2 ^ 64 }
         ensures { self.new ≡ in_place pid pool self.old }
     {
         let (slot, old) = found_at(&self.order, self.index.as_slice(), pid).unwrap();
         let under = changed(self.under, old.under_part(), pool.under_part());
         let held = changed(self.held, old.held_part(), pool.held_part());
+        self.free.leave(slot, old.stage.is_free());
+        self.resident
+            .keep(slot, old.stage.is_resident(), pool.stage.is_resident());
         *self.order.peek_mut(&slot).unwrap() = Some((pid, pool));
         self.under = under;
         self.held = held;
@@ -200,6 +246,10 @@ impl Table {
         let (slot, old) = found_at(&self.order, self.index.as_slice(), pid).unwrap();
         let under = changed(self.under, old.under_part(), pool.under_part());
         let held = changed(self.held, old.held_part(), pool.held_part());
+        self.free
+            .renew(slot, old.stage.is_free(), pool.stage.is_free());
+        self.resident
+            .renew(slot, old.stage.is_resident(), pool.stage.is_resident());
         self.order.put(slot, Some((pid, pool))).unwrap();
         self.under = under;
         self.held = held;
@@ -216,6 +266,8 @@ impl Table {
         let under = self.under + pool.under_part();
         let held = self.held + pool.held_part();
         let slot = self.spare.pop().unwrap();
+        self.free.renew(slot, false, pool.stage.is_free());
+        self.resident.renew(slot, false, pool.stage.is_resident());
         self.order.put(slot, Some((pid, pool))).unwrap();
         note(&mut self.index, pid, Some(slot));
         self.under = under;
@@ -230,6 +282,8 @@ impl Table {
         let (slot, old) = found_at(&self.order, self.index.as_slice(), pid).unwrap();
         let under = self.under - old.under_part();
         let held = self.held - old.held_part();
+        self.free.leave(slot, old.stage.is_free());
+        self.resident.leave(slot, old.stage.is_resident());
         self.spare.push(slot).unwrap();
         self.order.put(slot, None).unwrap();
         note(&mut self.index, pid, None);

@@ -1,5 +1,6 @@
 -- What stands for the contents, and what a disk that comes back at the end has of them.
-use Rattle.std.proofs.Common.{◌≡◌, ℕ, zero, suc, ◌+◌, ◌*◌, ◌^◌, ◌<◌, ◌≤◌, Bool, true, false, cond, nat_eq, List, [], ◌∷◌, length, sum_by, true≢false, Option, Some, None, IsSome, refl, sym, ap, subst, arith, ◌∙◌}
+use Rattle.std.proofs.Common.{◌≡◌, ℕ, zero, suc, ◌+◌, ◌*◌, ◌^◌, ◌<◌, ◌≤◌, Bool, true, false, cond, nat_eq, List, [], ◌∷◌, length, sum_by, true≢false}
+use Rattle.std.proofs.Common.{Option, Some, None, IsSome, refl, sym, ap, subst, arith, ◌∙◌}
 use Rattle.std.specs.Prelude.{IsTrue, is_none, option_map, slice_index, ◌&&◌, if◌then◌else◌}
 use Rattle.std.specs.Cmp.{nat_eq_equiv}
 use Rattle.std.specs.List.{IsDistinct, list_all}
@@ -39,7 +40,8 @@ contents_at l p = lookup-map_values (λ k. k.value) (nat_eq p) l.kept
 module _ {X Y : Type 0} where
   -- Of entries that each have an entry of the same key that counts no less, the sum is no more.
   pub sum_within : (f : X → ℕ) (g : Y → ℕ) (xs : List (ℕ × X)) (ys : List (ℕ × Y)) → IsDistinct nat_eq (keys_of xs) → IsDistinct nat_eq (keys_of ys)
-      → ((p : ℕ) (x : X) → lookup (nat_eq p) xs ≡ Some x → (y : Y) × (lookup (nat_eq p) ys ≡ Some y) × (f x ≤ g y)) → sum_by f (values_of xs) ≤ sum_by g (values_of ys)
+      → ((p : ℕ) (x : X) → lookup (nat_eq p) xs ≡ Some x → (y : Y) × (lookup (nat_eq p) ys ≡ Some y) × (f x ≤ g y))
+      → sum_by f (values_of xs) ≤ sum_by g (values_of ys)
   sum_within f g [] ys dx dy h = omega arith
   sum_within f g (r ∷ xs) ys dx dy h =
       let first : lookup (nat_eq r.0) (r ∷ xs) ≡ Some r.1 = rw (number_itself r.0) refl in
@@ -51,7 +53,8 @@ module _ {X Y : Type 0} where
       let gone : sum_by g (values_of left) + g y ≡ sum_by g (values_of ys) = sum_removed g r.0 y ys at in
       omega arith
     where
-      others : (p : ℕ) (x : X) → lookup (nat_eq p) xs ≡ Some x → (b : Bool) → nat_eq r.0 p ≡ b → (y : Y) × (lookup (nat_eq p) (remove_entry (nat_eq r.0) ys) ≡ Some y) × (f x ≤ g y)
+      others : (p : ℕ) (x : X) → lookup (nat_eq p) xs ≡ Some x → (b : Bool) → nat_eq r.0 p ≡ b
+          → (y : Y) × (lookup (nat_eq p) (remove_entry (nat_eq r.0) ys) ≡ Some y) × (f x ≤ g y)
       others p x e true t =
           let none : lookup (nat_eq p) xs ≡ None = ap (λ z. lookup (nat_eq z) xs) (sym (same_number r.0 p t)) ∙ head_absent r.0 xs dx in
           let no : Some x ≡ None = sym e ∙ none in absurd cc
@@ -88,12 +91,15 @@ told_part None place x some h = some
 told_part (Some b) place x some h = part_at x b place h
 
 -- empty hands hold nothing
-none_hold : (place : Hand → Option ℕ) → ((h : Hand) → is_empty_hand h ≡ true → place h ≡ None) → (hands : List Hand) (p : ℕ) → list_all is_empty_hand hands ≡ true → hands_with place hands p ≡ 0
+none_hold : (place : Hand → Option ℕ) → ((h : Hand) → is_empty_hand h ≡ true → place h ≡ None) → (hands : List Hand) (p : ℕ)
+    → list_all is_empty_hand hands ≡ true → hands_with place hands p ≡ 0
 none_hold place empty [] p e = refl
-none_hold place empty (h ∷ hands) p e = (elim (is_empty_hand h) as (λ b. is_empty_hand h ≡ b → (b && list_all is_empty_hand hands) ≡ true → hands_with place (h ∷ hands) p ≡ 0) [
-  | true ↦ λ t k. let c = sum_by-cons (λ l. one (holds (place l) p)) h hands in let n : one (holds (place h) p) ≡ 0 = ap (λ o. one (holds o p)) (empty h t) in let r = none_hold place empty hands p k in omega arith
-  | false ↦ λ t k. absurd (true≢false (sym k))
-]) refl e
+none_hold place empty (h ∷ hands) p e = (elim (is_empty_hand h)
+    as (λ b. is_empty_hand h ≡ b → (b && list_all is_empty_hand hands) ≡ true → hands_with place (h ∷ hands) p ≡ 0) [
+      | true ↦ λ t k. let c = sum_by-cons (λ l. one (holds (place l) p)) h hands in let n : one (holds (place h) p) ≡ 0 = ap (λ o. one (holds o p)) (empty h t)
+          in let r = none_hold place empty hands p k in omega arith
+      | false ↦ λ t k. absurd (true≢false (sym k))
+    ]) refl e
 
 empty_places : (h : Hand) → is_empty_hand h ≡ true → (h.read ≡ None) × (h.written ≡ None) × (h.moved ≡ None)
 empty_places h e = parts h.task h.written h.read h.moved e
@@ -106,7 +112,8 @@ empty_places h e = parts h.task h.written h.read h.moved e
     parts (Some t) wr r m k = absurd (true≢false (sym k))
 
 -- what a pool that nobody holds counts at the end: at most what it counts against the limit
-settled : (b : Bool) (st : Stage) (e c n : ℕ) → read_pins st ≡ 0 → write_pins st ≡ 0 → movers st ≡ 0 → IsFitStage st → c ≤ e → c ≡ n → (is_filed st ≡ true → b ≡ true)
+settled : (b : Bool) (st : Stage) (e c n : ℕ) → read_pins st ≡ 0 → write_pins st ≡ 0 → movers st ≡ 0 → IsFitStage st → c ≤ e → c ≡ n
+    → (is_filed st ≡ true → b ≡ true)
     → (if b then 0 else n) ≤ under_part (record { stage = st; e = e; c = c })
 settled true st e c n r w m f low same filed = omega arith
 settled false stage.Free e c n r w m f low same filed = omega arith
@@ -136,36 +143,45 @@ module _ {T B D : Type 0} (charge : T → ℕ) (spell : T → List ℕ) (is_valu
       by (Some x) at h = record { pool = x; at = at; stands = h }
 
   -- at the end, what a trusted disk doesn't have fits in the limit
-  pub rest_within : (l : Paged T B D) → Good l → ((d : D) → IsTrue (honest d) → IsSome (bytes d)) → list_all is_empty_hand l.core.hands ≡ true → l.core.failure ≡ None → IsTrusted reach honest l
+  pub rest_within : (l : Paged T B D) → Good l → ((d : D) → IsTrue (honest d) → IsSome (bytes d)) → list_all is_empty_hand l.core.hands ≡ true
+      → l.core.failure ≡ None → IsTrusted reach honest l
       → untold_len spell (bytes l.disk) (contents l) ≤ l.core.limit
   rest_within l g tells idle none trusted =
       let s = g.sound in
       let some : IsSome (bytes l.disk) = tells l.disk (g.good trusted).0 in
-      let sum = sum_within (λ r. if is_told_part (bytes l.disk) (spell r) then 0 else length (spell r)) under_part (contents l) l.core.pools g.differ s.one_pool (λ p r e. each some p r (sym (contents_at l p) ∙ e)) in
+      let sum = sum_within (λ r. if is_told_part (bytes l.disk) (spell r) then 0 else length (spell r)) under_part (contents l) l.core.pools g.differ s.one_pool
+      (λ p r e. each some p r (sym (contents_at l p) ∙ e)) in
       let fits : under_sum l.core.pools ≤ l.core.limit = s.under_fits in
       omega arith
     where
-      each : IsSome (bytes l.disk) → (p : ℕ) (r : T) → content_at l p ≡ Some r → (x : Pool) × (pool_at l.core.pools p ≡ Some x) × ((if is_told_part (bytes l.disk) (spell r) then 0 else length (spell r)) ≤ under_part x)
+      each : IsSome (bytes l.disk) → (p : ℕ) (r : T) → content_at l p ≡ Some r
+          → (x : Pool) × (pool_at l.core.pools p ≡ Some x) × ((if is_told_part (bytes l.disk) (spell r) then 0 else length (spell r)) ≤ under_part x)
       each some p r e =
           let f = found l p r g e in let x = f.pool in let s = g.sound in
           let fit = s.forms_fit p x f.at in
-          let readers : read_pins x.stage ≡ 0 = ap (wanted_by read_pins) (sym f.at) ∙ sym (s.readers p) ∙ none_hold (λ h. h.read) (λ h k. (empty_places h k).0) l.core.hands p idle in
-          let writers : write_pins x.stage ≡ 0 = ap (wanted_by write_pins) (sym f.at) ∙ sym (s.writers p) ∙ none_hold (λ h. h.written) (λ h k. (empty_places h k).1) l.core.hands p idle in
-          let moving : movers x.stage ≡ 0 = ap (wanted_by movers) (sym f.at) ∙ sym (s.one_mover p) ∙ none_hold (λ h. h.moved) (λ h k. (empty_places h k).2) l.core.hands p idle in (
+          let readers : read_pins x.stage ≡ 0 = ap (wanted_by read_pins) (sym f.at) ∙ sym (s.readers p) ∙ none_hold (λ h. h.read) (λ h k. (empty_places h k).0)
+          l.core.hands p idle in
+          let writers : write_pins x.stage ≡ 0 = ap (wanted_by write_pins) (sym f.at) ∙ sym (s.writers p) ∙ none_hold (λ h. h.written)
+          (λ h k. (empty_places h k).1) l.core.hands p idle in
+          let moving : movers x.stage ≡ 0 = ap (wanted_by movers) (sym f.at) ∙ sym (s.one_mover p) ∙ none_hold (λ h. h.moved) (λ h k. (empty_places h k).2)
+          l.core.hands p idle in (
             x,
             f.at,
-            settled (is_told_part (bytes l.disk) (spell r)) x.stage x.e x.c (length (spell r)) readers writers moving fit.stage_fits fit.shorter f.stands.length_is
+            settled (is_told_part (bytes l.disk) (spell r)) x.stage x.e x.c (length (spell r)) readers writers moving fit.stage_fits fit.shorter
+                f.stands.length_is
                 (λ k. told_part (bytes l.disk) (p * l.core.limit) (spell r) some (f.stands.filed none trusted k)),
           )
 
   -- the loader stands for its contents
-  pub whole_stands : (limit : ℕ) (core : Core) (rows : List (ℕ × Entry T B)) (disk : Home D) (first : D) (counters : Counters) (lists : Lists T) → IsWhole charge spell is_value bytes reach honest limit core rows disk first counters
+  pub whole_stands : (limit : ℕ) (core : Core) (rows : List (ℕ × Entry T B)) (disk : Home D) (first : D) (counters : Counters) (lists : Lists T)
+      → IsWhole charge spell is_value bytes reach honest limit core rows disk first counters
       → Good (record { core = core; kept = kept_in rows; disk = told disk; home = is_home disk; first = first; counters = counters; trail = lists })
   whole_stands limit core rows disk first counters lists w = record {
     small = subst (λ n. n ≤ 2 ^ 30) (sym w.limit_is) w.small;
     sound = w.sound;
     differ = subst (IsDistinct nat_eq) (sym (keys_of-map_values (λ k. k.value) (kept_in rows) ∙ keys_of-map_values kept_of rows)) w.differ;
-    pools = λ p. subst (HasPool charge spell is_value bytes reach honest l p (pool_at core.pools p)) (sym (ap (option_map (λ k. k.value)) (kept_lookup rows p))) (by p (pool_at core.pools p) (lookup (nat_eq p) rows) (w.stands p));
+    pools = λ p. subst (HasPool charge spell is_value bytes reach honest l p (pool_at core.pools p)) (sym (ap (option_map (λ k. k.value)) (kept_lookup rows p)))
+        (by p (pool_at core.pools p) (lookup (nat_eq p) rows) (w.stands p));
     home = w.home;
     good = subst (λ n. IsGood reach honest n first → IsGood reach honest n (told disk)) (sym w.limit_is) w.good;
     peak = subst (λ n. counters.under_peak ≤ n) (sym w.limit_is) w.peak;
@@ -174,7 +190,8 @@ module _ {T B D : Type 0} (charge : T → ℕ) (spell : T → List ℕ) (is_valu
       l : Paged T B D
       l = record { core = core; kept = kept_in rows; disk = told disk; home = is_home disk; first = first; counters = counters; trail = lists }
 
-      by : (p : ℕ) (o : Option Pool) (e : Option (Entry T B)) → Stands charge spell is_value limit (core.failure ≡ None) (IsGood reach honest limit first) (bytes (told disk)) p o e
+      by : (p : ℕ) (o : Option Pool) (e : Option (Entry T B))
+          → Stands charge spell is_value limit (core.failure ≡ None) (IsGood reach honest limit first) (bytes (told disk)) p o e
           → HasPool charge spell is_value bytes reach honest l p o (option_map (λ k. k.value) (option_map kept_of e))
       by p None None h = h
       by p None (Some e) h = h
@@ -184,12 +201,15 @@ module _ {T B D : Type 0} (charge : T → ℕ) (spell : T → List ℕ) (is_valu
         value = h.value;
         charge_is = h.charge_is;
         length_is = h.length_is;
-        filed = subst (λ n. core.failure ≡ None → IsGood reach honest n first → is_filed x.stage ≡ true → HasBytes (bytes (told disk)) (p * n) (spell e.value.value)) (sym w.limit_is) h.filed;
+        filed = subst (λ n. core.failure ≡ None → IsGood reach honest n first → is_filed x.stage ≡ true
+            → HasBytes (bytes (told disk)) (p * n) (spell e.value.value)) (sym w.limit_is) h.filed;
       }
 
   pub ended_good : (old v : Paged T B D) (d : D) → v ≡ old → Good v → d ≡ v.disk → IsTrusted reach honest old → IsGood reach honest old.core.limit d
-  ended_good old v d e g is = subst (λ z. IsTrusted reach honest z → IsGood reach honest z.core.limit d) e (λ t. subst (IsGood reach honest v.core.limit) (sym is) (g.good t))
+  ended_good old v d e g is = subst (λ z. IsTrusted reach honest z → IsGood reach honest z.core.limit d) e
+      (λ t. subst (IsGood reach honest v.core.limit) (sym is) (g.good t))
 
-  pub ended_rest : (old v : Paged T B D) → v ≡ old → Good v → ((d : D) → IsTrue (honest d) → IsSome (bytes d)) → list_all is_empty_hand old.core.hands ≡ true → old.core.failure ≡ None → IsTrusted reach honest old
+  pub ended_rest : (old v : Paged T B D) → v ≡ old → Good v → ((d : D) → IsTrue (honest d) → IsSome (bytes d)) → list_all is_empty_hand old.core.hands ≡ true
+      → old.core.failure ≡ None → IsTrusted reach honest old
       → untold_len spell (bytes old.disk) (contents old) ≤ old.core.limit
   ended_rest old v e g tells = rest_within old (subst Good e g) tells

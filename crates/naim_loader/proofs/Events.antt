@@ -67,12 +67,14 @@ module _ {T B D : Type 0} (charge : T → ℕ) (spell : T → List ℕ) (is_valu
   abbrev Whole : ℕ → Core → List (ℕ × Entry T B) → Home D → D → Counters → Type 0
   Whole = IsWhole charge spell is_value bytes reach honest
 
-  pub pin_read_whole : (limit w p : ℕ) (s new : Core) (rows : List (ℕ × Entry T B)) (disk : Home D) (first : D) (before after : Counters) → Whole limit s rows disk first before → s.failure ≡ None
+  pub pin_read_whole : (limit w p : ℕ) (s new : Core) (rows : List (ℕ × Entry T B)) (disk : Home D) (first : D) (before after : Counters)
+      → Whole limit s rows disk first before → s.failure ≡ None
       → Stepped s (event.PinRead w p) new before after → Whole limit new rows disk first after
   pin_read_whole limit w p s new rows disk first before after wh none t =
       let d = pin_read_did s new w p wh.sound none t.step in let x = d.pool in
       let th = there charge spell is_value bytes reach honest limit s rows disk first before p x wh d.at in
-      whole_moved charge spell is_value bytes reach honest limit s new p x (record x { stage = Rows.with_reader x.stage }) th.entry th.entry.body s.disk (event.PinRead w p) rows rows disk disk first before after wh (record {
+      whole_moved charge spell is_value bytes reach honest limit s new p x (record x { stage = Rows.with_reader x.stage }) th.entry th.entry.body s.disk
+      (event.PinRead w p) rows rows disk disk first before after wh (record {
         running = none;
         pool = d.at;
         entry = th.at;

@@ -38,7 +38,8 @@ use Rattle.naim_loader.proofs.Rows.{get_put}
 use Rattle.naim_loader.proofs.Wholes.{ran}
 
 -- an event on a pool, whatever it makes of the pool, leaves the hands that it names
-on_hands : (s : Core) (p : ℕ) (row : Pool → Rows.Row) (f : Pool → Pool) (g : Pool → Pool → Core) (new : Core) (hands : List Hand) → ((x y : Pool) → (g x y).hands ≡ hands)
+on_hands : (s : Core) (p : ℕ) (row : Pool → Rows.Row) (f : Pool → Pool) (g : Pool → Pool → Core) (new : Core) (hands : List Hand)
+    → ((x y : Pool) → (g x y).hands ≡ hands)
     → on_pool s p (λ x. then_state (permit (row x) (f x)) (λ y. g x y)) ≡ Ok new → new.hands ≡ hands
 on_hands s p row f g new hands same h = found (pool_at s.pools p) h
   where
@@ -56,14 +57,17 @@ hand_now hands w h below = ap (λ o. unwrap_or o empty_hand) (get_put hands w h 
 pin_read_hand : (s new : Core) (w p : ℕ) → s.failure ≡ None → w < length s.hands → step_of s (event.PinRead w p) ≡ Ok new → (hand_at new.hands w).read ≡ Some p
 pin_read_hand s new w p none below h =
     let g = hand_at s.hands w in let after : Hand = record g { read = Some p } in
-    let is = on_hands s p (λ x. Rows.pin_read_row x g) (λ x. record x { stage = Rows.with_reader x.stage }) (λ x y. record s { pools = front p y s.pools; hands = slice_set s.hands w after }) new (slice_set s.hands w after) (λ x y. refl)
+    let is = on_hands s p (λ x. Rows.pin_read_row x g) (λ x. record x { stage = Rows.with_reader x.stage })
+    (λ x y. record s { pools = front p y s.pools; hands = slice_set s.hands w after }) new (slice_set s.hands w after) (λ x y. refl)
     (sym (running s (event.PinRead w p) none) ∙ h) in
     ap (λ z. (hand_at z w).read) is ∙ ap (λ z. z.read) (hand_now s.hands w after below)
 
-pin_write_hand : (s new : Core) (w p room : ℕ) → s.failure ≡ None → w < length s.hands → step_of s (event.PinWrite w p room) ≡ Ok new → (hand_at new.hands w).written ≡ Some p
+pin_write_hand : (s new : Core) (w p room : ℕ) → s.failure ≡ None → w < length s.hands → step_of s (event.PinWrite w p room) ≡ Ok new
+    → (hand_at new.hands w).written ≡ Some p
 pin_write_hand s new w p room none below h =
     let g = hand_at s.hands w in let after : Hand = record g { written = Some p } in
-    let is = on_hands s p (λ x. Rows.pin_write_row x g s.in_wave p room) (λ x. record x { stage = stage.Written room }) (λ x y. record s { pools = front p y s.pools; hands = slice_set s.hands w after }) new (slice_set s.hands w after)
+    let is = on_hands s p (λ x. Rows.pin_write_row x g s.in_wave p room) (λ x. record x { stage = stage.Written room })
+    (λ x y. record s { pools = front p y s.pools; hands = slice_set s.hands w after }) new (slice_set s.hands w after)
     (λ x y. refl) (sym (running s (event.PinWrite w p room) none) ∙ h) in
     ap (λ z. (hand_at z w).written) is ∙ ap (λ z. z.written) (hand_now s.hands w after below)
 
@@ -71,26 +75,33 @@ moved_now : (m : Mode) (p : ℕ) (g : Hand) → (take_pin m p g).moved ≡ Some 
 moved_now mode.Read p g = refl
 moved_now (mode.Write room) p g = refl
 
-reload_hand : (s new : Core) (w p : ℕ) (m : Mode) → s.failure ≡ None → w < length s.hands → step_of s (event.ReloadBegin w p m) ≡ Ok new → (hand_at new.hands w).moved ≡ Some p
+reload_hand : (s new : Core) (w p : ℕ) (m : Mode) → s.failure ≡ None → w < length s.hands → step_of s (event.ReloadBegin w p m) ≡ Ok new
+    → (hand_at new.hands w).moved ≡ Some p
 reload_hand s new w p m none below h =
     let g = hand_at s.hands w in
     let is = on_hands s p (λ x. Rows.reload_begin_row x g s.in_wave p m s.disk) (λ x. record x { stage = stage.Reloading m (is_offloaded x.stage) })
-    (λ x y. record s { pools = in_place p y s.pools; hands = slice_set s.hands w (take_pin m p g); disk = if is_offloaded x.stage then Some w else s.disk }) new (slice_set s.hands w (take_pin m p g)) (λ x y. refl)
+    (λ x y. record s { pools = in_place p y s.pools; hands = slice_set s.hands w (take_pin m p g); disk = if is_offloaded x.stage then Some w else s.disk }) new
+    (slice_set s.hands w (take_pin m p g)) (λ x y. refl)
     (sym (running s (event.ReloadBegin w p m) none) ∙ h) in
     ap (λ z. (hand_at z w).moved) is ∙ ap (λ z. z.moved) (hand_now s.hands w (take_pin m p g) below) ∙ moved_now m p g
 
-compact_hand : (s new : Core) (w p wanted : ℕ) → s.failure ≡ None → w < length s.hands → step_of s (event.CompactBegin w p wanted) ≡ Ok new → (hand_at new.hands w).moved ≡ Some p
+compact_hand : (s new : Core) (w p wanted : ℕ) → s.failure ≡ None → w < length s.hands → step_of s (event.CompactBegin w p wanted) ≡ Ok new
+    → (hand_at new.hands w).moved ≡ Some p
 compact_hand s new w p wanted none below h =
     let g = hand_at s.hands w in let after : Hand = record g { moved = Some p } in
-    let is = on_hands s p (λ x. Rows.compact_begin_row s.limit (under_sum s.pools) (victim s.pools) x g p wanted) (λ x. record x { stage = stage.Compacting }) (λ x y. record s { pools = in_place p y s.pools; hands = slice_set s.hands w after }) new
+    let is = on_hands s p (λ x. Rows.compact_begin_row s.limit (under_sum s.pools) (victim s.pools) x g p wanted) (λ x. record x { stage = stage.Compacting })
+    (λ x y. record s { pools = in_place p y s.pools; hands = slice_set s.hands w after }) new
     (slice_set s.hands w after) (λ x y. refl) (sym (running s (event.CompactBegin w p wanted) none) ∙ h) in
     ap (λ z. (hand_at z w).moved) is ∙ ap (λ z. z.moved) (hand_now s.hands w after below)
 
-offload_hand : (s new : Core) (w p wanted : ℕ) → s.failure ≡ None → w < length s.hands → step_of s (event.OffloadBegin w p wanted) ≡ Ok new → (hand_at new.hands w).moved ≡ Some p
+offload_hand : (s new : Core) (w p wanted : ℕ) → s.failure ≡ None → w < length s.hands → step_of s (event.OffloadBegin w p wanted) ≡ Ok new
+    → (hand_at new.hands w).moved ≡ Some p
 offload_hand s new w p wanted none below h =
     let g = hand_at s.hands w in let after : Hand = record g { moved = Some p } in
-    let is = on_hands s p (λ x. Rows.offload_begin_row s.limit (under_sum s.pools) (victim s.pools) x g p wanted s.disk) (λ x. record x { stage = stage.Offloading })
-    (λ x y. record s { pools = in_place p y s.pools; hands = slice_set s.hands w after; disk = Some w }) new (slice_set s.hands w after) (λ x y. refl) (sym (running s (event.OffloadBegin w p wanted) none) ∙ h) in
+    let is = on_hands s p (λ x. Rows.offload_begin_row s.limit (under_sum s.pools) (victim s.pools) x g p wanted s.disk)
+    (λ x. record x { stage = stage.Offloading })
+    (λ x y. record s { pools = in_place p y s.pools; hands = slice_set s.hands w after; disk = Some w }) new (slice_set s.hands w after) (λ x y. refl)
+    (sym (running s (event.OffloadBegin w p wanted) none) ∙ h) in
     ap (λ z. (hand_at z w).moved) is ∙ ap (λ z. z.moved) (hand_now s.hands w after below)
 
 read_now : (st : Stage) → is_read (Rows.with_reader st) ≡ true
@@ -104,7 +115,8 @@ read_now stage.Offloading = refl
 read_now (stage.Reloading m from_disk) = refl
 
 -- the pool after its event
-pool_now : (s new : Core) (p : ℕ) (Was : Stage → Type 0) (f : Pool → Pool) (disk : Pool → Option ℕ) (d : Did s new p Was f disk) → pool_at new.pools p ≡ Some (f d.pool)
+pool_now : (s new : Core) (p : ℕ) (Was : Stage → Type 0) (f : Pool → Pool) (disk : Pool → Option ℕ) (d : Did s new p Was f disk)
+    → pool_at new.pools p ≡ Some (f d.pool)
 pool_now s new p Was f disk d = d.turned.found p ∙ ap (λ b. cond b (Some (f d.pool)) (pool_at s.pools p)) (number_itself p)
 
 module _ {T B D : Type 0} (charge : T → ℕ) (spell : T → List ℕ) (bytes : D → Option (List ℕ)) (reach : D → ℕ) (honest : D → Bool) where
@@ -112,7 +124,8 @@ module _ {T B D : Type 0} (charge : T → ℕ) (spell : T → List ℕ) (bytes :
   content_kept old new e p r t at = ap (λ z. content_at z p) t.same ∙ at
 
   -- a pin that is handed out
-  pub pin_handed : (old new : Paged T B D) (w p : ℕ) (m : Mode) (x : Pin T) → IsSound old.core → w < length old.core.hands → AnswersPin charge spell bytes reach honest old new w p m (answer.Ready x) → HasPin new w x
+  pub pin_handed : (old new : Paged T B D) (w p : ℕ) (m : Mode) (x : Pin T) → IsSound old.core → w < length old.core.hands
+      → AnswersPin charge spell bytes reach honest old new w p m (answer.Ready x) → HasPin new w x
   pin_handed old new w p mode.Read (pin.Read x) sound below a =
       let t = a.0 in let same = a.1.0 in let none = ran old.core new.core (event.PinRead w p) refl t.step in
       let d = pin_read_did old.core new.core w p sound none t.step in
@@ -133,7 +146,8 @@ module _ {T B D : Type 0} (charge : T → ℕ) (spell : T → List ℕ) (bytes :
   pin_handed old new w p (mode.Write room) (pin.Read x) sound below a = absurd a.1
 
   -- what a reload holds once it has begun, by the stage that the pool had
-  reload_holds : (old new : Paged T B D) (w p : ℕ) (m : Mode) (was : Stage) (from_disk : Bool) (r : T) → IsSound old.core → w < length old.core.hands → Steps old (event.ReloadBegin w p m) new → stage_at old p ≡ Some was → is_offloaded was ≡ from_disk
+  reload_holds : (old new : Paged T B D) (w p : ℕ) (m : Mode) (was : Stage) (from_disk : Bool) (r : T) → IsSound old.core → w < length old.core.hands
+      → Steps old (event.ReloadBegin w p m) new → stage_at old p ≡ Some was → is_offloaded was ≡ from_disk
       → content_at old p ≡ Some r → HoldsAt new w p (λ h. h.moved) (λ st. st ≡ stage.Reloading m from_disk) r
   reload_holds old new w p m was from_disk r sound below t lay from content =
       let none = ran old.core new.core (event.ReloadBegin w p m) refl t.step in
@@ -141,16 +155,24 @@ module _ {T B D : Type 0} (charge : T → ℕ) (spell : T → List ℕ) (bytes :
       let lies : d.pool.stage ≡ was = same_Some d.pool.stage was (sym (ap (option_map (λ x. x.stage)) d.at) ∙ lay) in
       record {
         hand = reload_hand old.core new.core w p m none below t.step;
-        pool = (record d.pool { stage = stage.Reloading m (is_offloaded d.pool.stage) }, pool_now old.core new.core p _ _ _ d, ap (λ b. stage.Reloading m b) (ap is_offloaded lies ∙ from));
+        pool = (
+          record d.pool { stage = stage.Reloading m (is_offloaded d.pool.stage) },
+          pool_now old.core new.core p _ _ _ d,
+          ap (λ b. stage.Reloading m b)
+              (ap is_offloaded lies ∙ from),
+        );
         content = content_kept old new (event.ReloadBegin w p m) p r t content;
       }
 
   -- the disk that is lent with an event
-  disk_lent : (old new : Paged T B D) (e : Event) (w : ℕ) (d : D) → (IsTrusted reach honest old → IsGood reach honest old.core.limit old.disk) → Steps old e new → new.core.disk ≡ Some w → new.core.limit ≡ old.core.limit → d ≡ old.disk
+  disk_lent : (old new : Paged T B D) (e : Event) (w : ℕ) (d : D) → (IsTrusted reach honest old → IsGood reach honest old.core.limit old.disk) → Steps old e new
+      → new.core.disk ≡ Some w → new.core.limit ≡ old.core.limit → d ≡ old.disk
       → HasDisk charge spell bytes reach honest new d
   disk_lent old new e w d good t out limit is =
       let kept : new.disk ≡ old.disk = ap (λ z. z.disk) t.same in
-      let trusted : IsTrusted reach honest new → IsTrusted reach honest old = λ g. subst (λ n. IsGood reach honest n old.first) limit (subst (IsGood reach honest new.core.limit) (ap (λ z. z.first) t.same) g) in
+      let trusted : IsTrusted reach honest new
+      → IsTrusted reach honest old = λ g. subst (λ n. IsGood reach honest n old.first) limit
+      (subst (IsGood reach honest new.core.limit) (ap (λ z. z.first) t.same) g) in
       record {
         out = ap (λ z. z.home) t.same ∙ ap is_none out;
         good = λ g. subst (IsGood reach honest new.core.limit) (sym is) (subst (λ n. IsGood reach honest n old.disk) (sym limit) (good (trusted g)));
@@ -158,11 +180,21 @@ module _ {T B D : Type 0} (charge : T → ℕ) (spell : T → List ℕ) (bytes :
       }
 
   -- a reload that is handed out
-  pub reload_handed : (old new : Paged T B D) (w p : ℕ) (m : Mode) (x : Move T D) → IsSound old.core → (IsTrusted reach honest old → IsGood reach honest old.core.limit old.disk) → w < length old.core.hands
+  pub reload_handed : (old new : Paged T B D) (w p : ℕ) (m : Mode) (x : Move T D) → IsSound old.core
+      → (IsTrusted reach honest old → IsGood reach honest old.core.limit old.disk) → w < length old.core.hands
       → AnswersPin charge spell bytes reach honest old new w p m (answer.Reload x) → (r : T) × HasMoveOf charge spell bytes reach honest new w x r
   reload_handed old new w p m (move.FromBytes q b) sound good below a =
-      let t = a.0 in let same = a.1.0 in let r = a.1.2.0 in
-      (r, ((m, subst (λ z. HoldsAt new w z (λ h. h.moved) (λ st. st ≡ stage.Reloading m false) r) (sym same) (reload_holds old new w p m stage.Compacted false r sound below t a.1.1 refl a.1.2.1)), a.1.2.2))
+      let t = a.0 in let same = a.1.0 in let r = a.1.2.0 in (
+        r,
+        (
+          (
+            m,
+            subst (λ z. HoldsAt new w z (λ h. h.moved) (λ st. st ≡ stage.Reloading m false) r) (sym same)
+                (reload_holds old new w p m stage.Compacted false r sound below t a.1.1 refl a.1.2.1),
+          ),
+          a.1.2.2,
+        ),
+      )
   reload_handed old new w p m (move.FromDisk q filed number d) sound good below a =
       let t = a.0 in let same = a.1.0 in let r = a.1.2.0 in let is = a.1.2.1 in let rec = a.1.2.2 in
       let none = ran old.core new.core (event.ReloadBegin w p m) refl t.step in
@@ -170,13 +202,20 @@ module _ {T B D : Type 0} (charge : T → ℕ) (spell : T → List ℕ) (bytes :
       let limit = e.turned.limit_is in
       let lies : e.pool.stage ≡ stage.Offloaded = same_Some e.pool.stage stage.Offloaded (sym (ap (option_map (λ z. z.stage)) e.at) ∙ a.1.1) in
       let out : new.core.disk ≡ Some w = e.turned.disk_is ∙ ap (λ z. if is_offloaded z then Some w else old.core.disk) lies in
-      let trusted : IsTrusted reach honest new → IsTrusted reach honest old = λ g. subst (λ n. IsGood reach honest n old.first) limit (subst (IsGood reach honest new.core.limit) (ap (λ z. z.first) t.same) g) in (
+      let trusted : IsTrusted reach honest new
+      → IsTrusted reach honest old = λ g. subst (λ n. IsGood reach honest n old.first) limit
+      (subst (IsGood reach honest new.core.limit) (ap (λ z. z.first) t.same) g) in (
         r,
         (
-          (m, subst (λ z. HoldsAt new w z (λ h. h.moved) (λ st. st ≡ stage.Reloading m true) r) (sym same) (reload_holds old new w p m stage.Offloaded true r sound below t a.1.1 refl rec.content)),
+          (
+            m,
+            subst (λ z. HoldsAt new w z (λ h. h.moved) (λ st. st ≡ stage.Reloading m true) r) (sym same)
+                (reload_holds old new w p m stage.Offloaded true r sound below t a.1.1 refl rec.content),
+          ),
           is ∙ (λ i. record_of (sym same i * sym limit i) (spell r)),
           rec.charge_is,
-          (λ g. subst (λ z. HasBytes (bytes d) (z * new.core.limit) (spell r)) (sym same) (subst (λ n. HasBytes (bytes d) (p * n) (spell r)) (sym limit) (rec.there (trusted g)))),
+          (λ g. subst (λ z. HasBytes (bytes d) (z * new.core.limit) (spell r)) (sym same)
+              (subst (λ n. HasBytes (bytes d) (p * n) (spell r)) (sym limit) (rec.there (trusted g)))),
           disk_lent old new (event.ReloadBegin w p m) w d good t out limit rec.disk_is,
         ),
       )
@@ -184,7 +223,8 @@ module _ {T B D : Type 0} (charge : T → ℕ) (spell : T → List ℕ) (bytes :
   reload_handed old new w p m (move.Offloading q place b d) sound good below a = absurd a.1
 
   -- a move of the victim that is handed out
-  pub move_handed : (old new : Paged T B D) (w wanted : ℕ) (x : Move T D) → IsSound old.core → (IsTrusted reach honest old → IsGood reach honest old.core.limit old.disk) → w < length old.core.hands
+  pub move_handed : (old new : Paged T B D) (w wanted : ℕ) (x : Move T D) → IsSound old.core
+      → (IsTrusted reach honest old → IsGood reach honest old.core.limit old.disk) → w < length old.core.hands
       → AnswersEvict spell old new w wanted (evict.Begun x) → (r : T) × HasMoveOf charge spell bytes reach honest new w x r
   move_handed old new w wanted (move.Compacting p a) sound good below b =
       let t = b.1.1 in let none = ran old.core new.core (event.CompactBegin w p wanted) refl t.step in

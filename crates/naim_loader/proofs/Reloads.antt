@@ -1,5 +1,6 @@
 -- A reload begins.
-use Rattle.std.proofs.Common.{◌≡◌, ℕ, ◌+◌, ◌*◌, ◌<◌, ◌≤◌, ◌^◌, Bool, true, false, List, [], ◌∷◌, length, Option, Some, None, Vec, Err, refl, sym, ap, subst, arith, ◌∙◌}
+use Rattle.std.proofs.Common.{◌≡◌, ℕ, ◌+◌, ◌*◌, ◌<◌, ◌≤◌, ◌^◌, Bool, true, false, List, [], ◌∷◌, length, Option, Some, None, Vec, Err, refl, sym, ap}
+use Rattle.std.proofs.Common.{subst, arith, ◌∙◌}
 use Rattle.std.specs.Prelude.{is_none, is_some, nat_lt, not, ◌&&◌, ◌||◌, if◌then◌else◌}
 use Rattle.std.specs.declared.alloc.Global.{Global}
 use Rattle.std.proofs.lemmas.Bool.Decides.{nat_tests}
@@ -69,14 +70,18 @@ own_task true true t p h = ap (λ o. not (holds o p)) (h refl refl) ∙ ap not (
 pub not_less : (m n : ℕ) → n ≤ m → nat_lt m n ≡ false
 not_less m n h = grind (arith, nat_tests)
 
-pub reload_refused : (s : Core) (w p : ℕ) (m : Mode) (x : Pool) (r : Refusal) → s.failure ≡ None → pool_at s.pools p ≡ Some x → is_away x.stage ≡ true → Allows s w p m → step_of s (event.ReloadBegin w p m) ≡ Err r → r ≡ DiskOut
+pub reload_refused : (s : Core) (w p : ℕ) (m : Mode) (x : Pool) (r : Refusal) → s.failure ≡ None → pool_at s.pools p ≡ Some x → is_away x.stage ≡ true
+    → Allows s w p m → step_of s (event.ReloadBegin w p m) ≡ Err r → r ≡ DiskOut
 reload_refused s w p m x r none at away allowed h =
     let g = hand_at s.hands w in let still = away_still x.stage away in
     let h' = sym (running s (event.ReloadBegin w p m) none) ∙ h in
     let here = rw at at h' in
-    behind (is_some g.moved || is_some (Rows.pin_place m g)) (Rows.is_write m && s.in_wave && not (holds g.task p)) (is_moving x.stage) (is_expanded x.stage) (is_offloaded x.stage && is_some s.disk) (nat_lt (2 ^ 41) (room_of m))
-    (record x { stage = stage.Reloading m (is_offloaded x.stage) }) (λ y. record s { pools = in_place p y s.pools; hands = with_hand s w (take_pin m p g); disk = if is_offloaded x.stage then Some w else s.disk }) r
-    (free_hand g.moved (Rows.pin_place m g) allowed.moved allowed.pin) (own_task (Rows.is_write m) s.in_wave g.task p allowed.task) still.0 still.1 (not_less (2 ^ 41) (room_of m) allowed.room) here
+    behind (is_some g.moved || is_some (Rows.pin_place m g)) (Rows.is_write m && s.in_wave && not (holds g.task p)) (is_moving x.stage) (is_expanded x.stage)
+    (is_offloaded x.stage && is_some s.disk) (nat_lt (2 ^ 41) (room_of m))
+    (record x { stage = stage.Reloading m (is_offloaded x.stage) })
+    (λ y. record s { pools = in_place p y s.pools; hands = with_hand s w (take_pin m p g); disk = if is_offloaded x.stage then Some w else s.disk }) r
+    (free_hand g.moved (Rows.pin_place m g) allowed.moved allowed.pin) (own_task (Rows.is_write m) s.in_wave g.task p allowed.task) still.0 still.1
+    (not_less (2 ^ 41) (room_of m) allowed.room) here
 
 filed_away : (st : Stage) → is_offloaded st ≡ true → is_filed st ≡ true
 filed_away stage.Free e = cc
@@ -89,7 +94,8 @@ filed_away stage.Offloading e = cc
 filed_away (stage.Reloading m from_disk) e = cc
 
 module _ {T : Type 0} (spell : T → List ℕ) where
-  pub lies_packed : (place : ℕ) (st : Stage) (v : Vec ℕ Global) (r : T) → is_away st ≡ true → LiesAs spell place st (lying.Packed v) r → (st ≡ stage.Compacted) × (v.items ≡ spell r)
+  pub lies_packed : (place : ℕ) (st : Stage) (v : Vec ℕ Global) (r : T) → is_away st ≡ true → LiesAs spell place st (lying.Packed v) r
+      → (st ≡ stage.Compacted) × (v.items ≡ spell r)
   lies_packed place stage.Free v r a l = cc
   lies_packed place (stage.Read readers) v r a l = cc
   lies_packed place (stage.Written room) v r a l = cc
@@ -99,7 +105,8 @@ module _ {T : Type 0} (spell : T → List ℕ) where
   lies_packed place stage.Offloading v r a l = cc
   lies_packed place (stage.Reloading m from_disk) v r a l = cc
 
-  pub lies_stored : (place : ℕ) (st : Stage) (f : Filed) (r : T) → is_away st ≡ true → LiesAs spell place st (lying.Stored f) r → (st ≡ stage.Offloaded) × (f ≡ record_of place (spell r))
+  pub lies_stored : (place : ℕ) (st : Stage) (f : Filed) (r : T) → is_away st ≡ true → LiesAs spell place st (lying.Stored f) r
+      → (st ≡ stage.Offloaded) × (f ≡ record_of place (spell r))
   lies_stored place stage.Free f r a l = cc
   lies_stored place (stage.Read readers) f r a l = cc
   lies_stored place (stage.Written room) f r a l = cc
@@ -110,7 +117,8 @@ module _ {T : Type 0} (spell : T → List ℕ) where
   lies_stored place (stage.Reloading m from_disk) f r a l = cc
 
   -- it lies packed or stored
-  pub lies_away : (place : ℕ) (st : Stage) (b : Lying T) (r : T) → is_away st ≡ true → LiesAs spell place st b r → ((v : Vec ℕ Global) → b ≡ lying.Packed v → ⊥) → ((f : Filed) → b ≡ lying.Stored f → ⊥) → ⊥
+  pub lies_away : (place : ℕ) (st : Stage) (b : Lying T) (r : T) → is_away st ≡ true → LiesAs spell place st b r → ((v : Vec ℕ Global) → b ≡ lying.Packed v → ⊥)
+      → ((f : Filed) → b ≡ lying.Stored f → ⊥) → ⊥
   lies_away place stage.Free b r a l m n = cc
   lies_away place (stage.Read readers) b r a l m n = cc
   lies_away place (stage.Written room) b r a l m n = cc
@@ -142,8 +150,10 @@ module _ {T B D : Type 0} (charge : T → ℕ) (spell : T → List ℕ) (is_valu
   abbrev Whole : ℕ → Core → List (ℕ × Entry T B) → Home D → D → Counters → Type 0
   Whole = IsWhole charge spell is_value bytes reach honest
 
-  pub taken : (limit w p : ℕ) (m : Mode) (s new : Core) (x : Pool) (rows rows' : List (ℕ × Entry T B)) (disk : Home D) (first : D) (before after : Counters) (was : Lying T) → Whole limit s rows disk first before → s.failure ≡ None → pool_at s.pools p ≡ Some x
-      → Stepped s (event.ReloadBegin w p m) new before after → (put : Puts rows rows' p lying.Out was) → (t : Taken charge spell bytes reach honest limit w p m s new x disk first was) × (t.value ≡ put.entry.value.value)
+  pub taken : (limit w p : ℕ) (m : Mode) (s new : Core) (x : Pool) (rows rows' : List (ℕ × Entry T B)) (disk : Home D) (first : D) (before after : Counters)
+      (was : Lying T) → Whole limit s rows disk first before → s.failure ≡ None → pool_at s.pools p ≡ Some x
+      → Stepped s (event.ReloadBegin w p m) new before after → (put : Puts rows rows' p lying.Out was)
+      → (t : Taken charge spell bytes reach honest limit w p m s new x disk first was) × (t.value ≡ put.entry.value.value)
   taken limit w p m s new x rows rows' disk first before after was wh none at t put =
       let d = reload_begin_did s new w p m wh.sound none t.step in
       let th = there charge spell is_value bytes reach honest limit s rows disk first before p x wh at in
@@ -151,7 +161,8 @@ module _ {T B D : Type 0} (charge : T → ℕ) (spell : T → List ℕ) (is_valu
       let pool : d.pool ≡ x = same_Some d.pool x (sym d.at ∙ at) in (
         record {
           value = put.entry.value.value;
-          lies = subst (λ z. LiesAs spell (p * limit) x.stage z put.entry.value.value) put.was_is (subst (λ z. LiesAs spell (p * limit) x.stage z.body z.value.value) same (th.standing.lies none));
+          lies = subst (λ z. LiesAs spell (p * limit) x.stage z put.entry.value.value) put.was_is
+              (subst (λ z. LiesAs spell (p * limit) x.stage z.body z.value.value) same (th.standing.lies none));
           charge_is = th.standing.charge_is ∙ ap (λ z. charge z.value.value) same;
           length_is = th.standing.length_is ∙ ap (λ z. length (spell z.value.value)) same;
           below = th.standing.below;
@@ -162,12 +173,15 @@ module _ {T B D : Type 0} (charge : T → ℕ) (spell : T → List ℕ) (is_valu
         refl,
       )
 
-  pub reload_whole : (limit w p : ℕ) (m : Mode) (s new : Core) (x : Pool) (rows rows' : List (ℕ × Entry T B)) (disk disk' : Home D) (first : D) (before after : Counters) (was : Lying T) → Whole limit s rows disk first before → s.failure ≡ None
-      → pool_at s.pools p ≡ Some x → Stepped s (event.ReloadBegin w p m) new before after → Puts rows rows' p lying.Out was → told disk' ≡ told disk → is_home disk' ≡ is_none new.disk → Whole limit new rows' disk' first after
+  pub reload_whole : (limit w p : ℕ) (m : Mode) (s new : Core) (x : Pool) (rows rows' : List (ℕ × Entry T B)) (disk disk' : Home D) (first : D)
+      (before after : Counters) (was : Lying T) → Whole limit s rows disk first before → s.failure ≡ None
+      → pool_at s.pools p ≡ Some x → Stepped s (event.ReloadBegin w p m) new before after → Puts rows rows' p lying.Out was → told disk' ≡ told disk
+      → is_home disk' ≡ is_none new.disk → Whole limit new rows' disk' first after
   reload_whole limit w p m s new x rows rows' disk disk' first before after was wh none at t put same home =
       let d = reload_begin_did s new w p m wh.sound none t.step in
       let z = d.pool in let y : Pool = record z { stage = stage.Reloading m (is_offloaded z.stage) } in
-      whole_moved charge spell is_value bytes reach honest limit s new p z y put.entry lying.Out (if is_offloaded z.stage then Some w else s.disk) (event.ReloadBegin w p m) rows rows' disk disk' first before after wh (record {
+      whole_moved charge spell is_value bytes reach honest limit s new p z y put.entry lying.Out (if is_offloaded z.stage then Some w else s.disk)
+      (event.ReloadBegin w p m) rows rows' disk disk' first before after wh (record {
         running = none;
         pool = d.at;
         entry = put.at;
@@ -184,15 +198,39 @@ module _ {T B D : Type 0} (charge : T → ℕ) (spell : T → List ℕ) (is_valu
       })
 
 module _ {T B D : Type 0} (charge : T → ℕ) (spell : T → List ℕ) (bytes : D → Option (List ℕ)) (reach : D → ℕ) (honest : D → Bool) where
-  pub answers_packed : (old v : Paged T B D) (w p : ℕ) (m : Mode) (b : Vec ℕ Global) (r : T) (new : Core) (after : Counters) (kept : List (ℕ × Kept T B)) (d : D) (home : Bool) → v ≡ old → Stepped v.core (event.ReloadBegin w p m) new v.counters after → kept ≡ v.kept
+  pub answers_packed : (old v : Paged T B D) (w p : ℕ) (m : Mode) (b : Vec ℕ Global) (r : T) (new : Core) (after : Counters) (kept : List (ℕ × Kept T B))
+      (d : D) (home : Bool) → v ≡ old → Stepped v.core (event.ReloadBegin w p m) new v.counters after → kept ≡ v.kept
       → d ≡ v.disk → home ≡ is_none new.disk → stage_at v p ≡ Some stage.Compacted → content_at v p ≡ Some r → b.items ≡ spell r
-      → AnswersPin charge spell bytes reach honest old (record { core = new; kept = kept; disk = d; home = home; first = v.first; counters = after; trail = v.trail }) w p m (answer.Reload (move.FromBytes p b))
-  answers_packed old v w p m b r new after kept d home e t k same h lay at is = (steps_view old v (event.ReloadBegin w p m) new after kept d home e t k same h, (refl, ap (λ z. stage_at z p) (sym e) ∙ lay, (r, ap (λ z. content_at z p) (sym e) ∙ at, is)))
+      → AnswersPin charge spell bytes reach honest old (record {
+        core = new;
+        kept = kept;
+        disk = d;
+        home = home;
+        first = v.first;
+        counters = after;
+        trail =
+            v.trail;
+      }) w p m (answer.Reload (move.FromBytes p b))
+  answers_packed old v w p m b r new after kept d home e t k same h lay at is = (
+    steps_view old v (event.ReloadBegin w p m) new after kept d home e t k same h,
+    (refl, ap (λ z. stage_at z p) (sym e) ∙ lay, (r, ap (λ z. content_at z p) (sym e) ∙ at, is)),
+  )
 
-  pub answers_stored : (old v : Paged T B D) (w p : ℕ) (m : Mode) (f : Filed) (number : ℕ) (lent : D) (r : T) (new : Core) (after : Counters) (kept : List (ℕ × Kept T B)) (d : D) (home : Bool) → v ≡ old → Stepped v.core (event.ReloadBegin w p m) new v.counters after
-      → kept ≡ v.kept → d ≡ v.disk → home ≡ is_none new.disk → stage_at v p ≡ Some stage.Offloaded → content_at v p ≡ Some r → f ≡ record_of (p * v.core.limit) (spell r) → number ≡ charge r → lent ≡ v.disk → p * v.core.limit + length (spell r) ≤ 131072 * v.core.limit
+  pub answers_stored : (old v : Paged T B D) (w p : ℕ) (m : Mode) (f : Filed) (number : ℕ) (lent : D) (r : T) (new : Core) (after : Counters)
+      (kept : List (ℕ × Kept T B)) (d : D) (home : Bool) → v ≡ old → Stepped v.core (event.ReloadBegin w p m) new v.counters after
+      → kept ≡ v.kept → d ≡ v.disk → home ≡ is_none new.disk → stage_at v p ≡ Some stage.Offloaded → content_at v p ≡ Some r
+      → f ≡ record_of (p * v.core.limit) (spell r) → number ≡ charge r → lent ≡ v.disk → p * v.core.limit + length (spell r) ≤ 131072 * v.core.limit
       → (IsTrusted reach honest v → HasBytes (bytes lent) (p * v.core.limit) (spell r))
-      → AnswersPin charge spell bytes reach honest old (record { core = new; kept = kept; disk = d; home = home; first = v.first; counters = after; trail = v.trail }) w p m (answer.Reload (move.FromDisk p f number lent))
+      → AnswersPin charge spell bytes reach honest old (record {
+        core = new;
+        kept = kept;
+        disk = d;
+        home = home;
+        first = v.first;
+        counters = after;
+        trail =
+            v.trail;
+      }) w p m (answer.Reload (move.FromDisk p f number lent))
   answers_stored old v w p m f number lent r new after kept d home e t k same h lay at is n l within there = (
     steps_view old v (event.ReloadBegin w p m) new after kept d home e t k same h,
     (

@@ -1,5 +1,6 @@
 -- What the loader's calls answer.
-use Rattle.std.specs.Prelude.{◌≡◌, ◌≤◌, ◌+◌, ◌*◌, ◌^◌, ◌⊎◌, ℕ, Bool, true, false, cond, List, [], ◌∷◌, ◌++◌, Option, Some, None, IsSome, Ok, Err, IsOk, Result, Vec, is_some, is_none, length, nat_eq, slice_get, ⊤, option_map}
+use Rattle.std.specs.Prelude.{◌≡◌, ◌≤◌, ◌+◌, ◌*◌, ◌^◌, ◌⊎◌, ℕ, Bool, true, false, cond, List, [], ◌∷◌, ◌++◌, Option, Some, None, IsSome, Ok, Err, IsOk}
+use Rattle.std.specs.Prelude.{Result, Vec, is_some, is_none, length, nat_eq, slice_get, ⊤, option_map}
 use Rattle.std.specs.Arc.{arc_value}
 use Rattle.repository.specs.Record.{HasBytes}
 use Rattle.repository.specs.Filing.{record_of}
@@ -72,9 +73,11 @@ pub record Inserts {T B D : Type 0} (charge : T → ℕ) (spell : T → List ℕ
 abbrev pub AnswersInsert : {T B D : Type 0} (charge : T → ℕ) (spell : T → List ℕ) → Paged T B D → Paged T B D → ℕ → Draft T → B → Put T B → Type 0
 AnswersInsert charge spell old new p d brief put.Done = Inserts charge spell old new p d brief
 AnswersInsert charge spell old new p d brief (put.NeedsRoom bytes back brief_back) =
-    (new ≡ old) × (step_of old.core (event.Insert p (draft_form d) (charge (draft_value d)) (length (spell (draft_value d)))) ≡ Err (refusal.NeedsRoom bytes)) × (back ≡ d) × (brief_back ≡ brief)
+    (new ≡ old) × (step_of old.core (event.Insert p (draft_form d) (charge (draft_value d)) (length (spell (draft_value d)))) ≡ Err (refusal.NeedsRoom bytes)) ×
+    (back ≡ d) × (brief_back ≡ brief)
 AnswersInsert charge spell old new p d brief (put.TooSmall pid need limit) =
-    (step_of old.core (event.Insert p (draft_form d) (charge (draft_value d)) (length (spell (draft_value d)))) ≡ Err (refusal.TooSmall need)) × (pid ≡ p) × (limit ≡ old.core.limit)
+    (step_of old.core (event.Insert p (draft_form d) (charge (draft_value d)) (length (spell (draft_value d)))) ≡ Err (refusal.TooSmall need)) × (pid ≡ p) ×
+    (limit ≡ old.core.limit)
     × Fails old 0 (failure.TooSmall p need limit) new
 AnswersInsert charge spell old new p d brief put.Stopped = Stopped old new
 
@@ -111,7 +114,8 @@ module _ {T B D : Type 0} (charge : T → ℕ) (spell : T → List ℕ) (bytes :
   -- compacted, or its record, where the pool was offloaded.
   abbrev pub IsReload : Paged T B D → ℕ → Move T D → Type 0
   IsReload old p (move.FromBytes q b) = (q ≡ p) × (stage_at old p ≡ Some stage.Compacted) × ((r : T) × (content_at old p ≡ Some r) × (b.items ≡ spell r))
-  IsReload old p (move.FromDisk q filed number d) = (q ≡ p) × (stage_at old p ≡ Some stage.Offloaded) × ((r : T) × (filed ≡ record_of (p * old.core.limit) (spell r)) × HandsRecord old p number d r)
+  IsReload old p (move.FromDisk q filed number d) = (q ≡ p) × (stage_at old p ≡ Some stage.Offloaded) ×
+      ((r : T) × (filed ≡ record_of (p * old.core.limit) (spell r)) × HandsRecord old p number d r)
   IsReload old p (move.Compacting q a) = ⊥
   IsReload old p (move.Offloading q place b d) = ⊥
 
@@ -150,15 +154,18 @@ pub record Writes {T B D : Type 0} (charge : T → ℕ) (spell : T → List ℕ)
 -- the new value's form, of those bytes, doesn't fit now; what was handed in comes back, and all is as it was
 abbrev pub WantsRoom : {T B D : Type 0} (charge : T → ℕ) (spell : T → List ℕ) → Paged T B D → Paged T B D → ℕ → ℕ → Draft T → B → Put T B → Type 0
 WantsRoom charge spell old new w p d brief (put.NeedsRoom bytes back brief_back) =
-    (new ≡ old) × (step_of old.core (event.UnpinWrite w p (draft_form d) (charge (draft_value d)) (length (spell (draft_value d)))) ≡ Err (refusal.NeedsRoom bytes)) × (back ≡ d) × (brief_back ≡ brief)
+    (new ≡ old) × (step_of old.core (event.UnpinWrite w p (draft_form d) (charge (draft_value d)) (length (spell (draft_value d)))) ≡ Err
+    (refusal.NeedsRoom bytes)) × (back ≡ d) × (brief_back ≡ brief)
 WantsRoom charge spell old new w p d brief _ = ⊥
 
 -- the answer to the end of a pin for writing
-abbrev pub AnswersWrite : {T B D : Type 0} (charge : T → ℕ) (spell : T → List ℕ) → Paged T B D → Paged T B D → ℕ → WritePin T → Draft T → B → Result (Put T B) (WritePin T × Put T B) → Type 0
+abbrev pub AnswersWrite : {T B D : Type 0} (charge : T → ℕ) (spell : T → List ℕ) → Paged T B D → Paged T B D → ℕ → WritePin T → Draft T → B
+    → Result (Put T B) (WritePin T × Put T B) → Type 0
 AnswersWrite charge spell old new w x d brief (Ok put.Done) = Writes charge spell old new w x.pid d brief
 AnswersWrite charge spell old new w x d brief (Ok (put.NeedsRoom bytes back brief_back)) = ⊥
 AnswersWrite charge spell old new w x d brief (Ok (put.TooSmall pid need limit)) =
-    (step_of old.core (event.UnpinWrite w x.pid (draft_form d) (charge (draft_value d)) (length (spell (draft_value d)))) ≡ Err (refusal.TooSmall need)) × (pid ≡ x.pid) × (limit ≡ old.core.limit)
+    (step_of old.core (event.UnpinWrite w x.pid (draft_form d) (charge (draft_value d)) (length (spell (draft_value d)))) ≡ Err (refusal.TooSmall need)) ×
+    (pid ≡ x.pid) × (limit ≡ old.core.limit)
     × Fails old w (failure.TooSmall x.pid need limit) new
 AnswersWrite charge spell old new w x d brief (Ok put.Stopped) = Stopped old new
 AnswersWrite charge spell old new w x d brief (Err e) = (e.0 ≡ x) × WantsRoom charge spell old new w x.pid d brief e.1

@@ -71,7 +71,8 @@ module _ {T B D : Type 0} (charge : T → ℕ) (spell : T → List ℕ) (bytes :
   -- with its charge and the disk, which has the spelling at that place if it is trusted.
   abbrev pub HasMoveOf : Paged T B D → ℕ → Move T D → T → Type 0
   HasMoveOf l w (move.Compacting p a) r = HoldsAt l w p (λ h. h.moved) (λ st. st ≡ stage.Compacting) r × (arc_value a ≡ r)
-  HasMoveOf l w (move.Offloading p place b d) r = HoldsAt l w p (λ h. h.moved) (λ st. st ≡ stage.Offloading) r × (place ≡ p * l.core.limit) × (b.items ≡ spell r) × HasDisk l d
+  HasMoveOf l w (move.Offloading p place b d) r = HoldsAt l w p (λ h. h.moved) (λ st. st ≡ stage.Offloading) r × (place ≡ p * l.core.limit) ×
+      (b.items ≡ spell r) × HasDisk l d
   HasMoveOf l w (move.FromBytes p b) r = ((m : Mode) × HoldsAt l w p (λ h. h.moved) (λ st. st ≡ stage.Reloading m false) r) × (b.items ≡ spell r)
   HasMoveOf l w (move.FromDisk p filed number d) r =
       ((m : Mode) × HoldsAt l w p (λ h. h.moved) (λ st. st ≡ stage.Reloading m true) r) × (filed ≡ record_of (p * l.core.limit) (spell r)) × (number ≡ charge r)

@@ -17,4 +17,5 @@ draft_form (draft.Packed bytes number seen) = form.Compacted
 -- packed bytes are the compact spelling of a value with that charge
 abbrev pub IsDraft : {T : Type 0} → (T → ℕ) → (T → List ℕ) → (T → Type 0) → Draft T → Type 0
 IsDraft charge spell is_value (draft.Whole a) = ⊤
-IsDraft charge spell is_value (draft.Packed bytes number seen) = is_value seen.value × (bytes.items ≡ spell seen.value) × (number ≡ charge seen.value) × (length bytes.items < 2 ^ 32)
+IsDraft charge spell is_value (draft.Packed bytes number seen) = is_value seen.value × (bytes.items ≡ spell seen.value) × (number ≡ charge seen.value) ×
+    (length bytes.items < 2 ^ 32)

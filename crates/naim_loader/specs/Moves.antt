@@ -51,7 +51,8 @@ module _ {T B D : Type 0} (spell : T → List ℕ) where
   BeginsMove old new w wanted (move.Compacting p a) =
       (victim old.core.pools ≡ Some p) × Steps old (event.CompactBegin w p wanted) new × (content_at old p ≡ Some (arc_value a))
   BeginsMove old new w wanted (move.Offloading p place b d) =
-      (victim old.core.pools ≡ Some p) × Steps old (event.OffloadBegin w p wanted) new × (place ≡ p * old.core.limit) × (d ≡ old.disk) × (place + length b.items ≤ 131072 * old.core.limit)
+      (victim old.core.pools ≡ Some p) × Steps old (event.OffloadBegin w p wanted) new × (place ≡ p * old.core.limit) × (d ≡ old.disk) ×
+      (place + length b.items ≤ 131072 * old.core.limit)
       × ((r : T) × (content_at old p ≡ Some r) × (b.items ≡ spell r))
   BeginsMove old new w wanted (move.FromBytes p b) = ⊥
   BeginsMove old new w wanted (move.FromDisk p filed number d) = ⊥
@@ -61,14 +62,17 @@ module _ {T B D : Type 0} (spell : T → List ℕ) where
   abbrev pub AnswersEvict : Paged T B D → Paged T B D → ℕ → ℕ → Evict T D → Type 0
   AnswersEvict old new w wanted (evict.Begun m) = (old.core.limit < under_sum old.core.pools + wanted) × BeginsMove old new w wanted m
   AnswersEvict old new w wanted evict.Fits = (new ≡ old) × (old.core.failure ≡ None) × (under_sum old.core.pools + wanted ≤ old.core.limit)
-  AnswersEvict old new w wanted evict.NoVictim = (new ≡ old) × (old.core.failure ≡ None) × (old.core.limit < under_sum old.core.pools + wanted) × (victim old.core.pools ≡ None)
+  AnswersEvict old new w wanted evict.NoVictim = (new ≡ old) × (old.core.failure ≡ None) × (old.core.limit < under_sum old.core.pools + wanted) ×
+      (victim old.core.pools ≡ None)
   AnswersEvict old new w wanted evict.DiskOut =
-      (new ≡ old) × (old.core.limit < under_sum old.core.pools + wanted) × ((p : ℕ) × (victim old.core.pools ≡ Some p) × (step_of old.core (event.OffloadBegin w p wanted) ≡ Err refusal.DiskOut))
+      (new ≡ old) × (old.core.limit < under_sum old.core.pools + wanted) ×
+      ((p : ℕ) × (victim old.core.pools ≡ Some p) × (step_of old.core (event.OffloadBegin w p wanted) ≡ Err refusal.DiskOut))
   AnswersEvict old new w wanted evict.Stopped = Stopped old new
 
   -- the worker compacts that pool, has its body, and brings that body's compact spelling
   abbrev pub EndsCompaction : Paged T B D → ℕ → Move T D → List ℕ → Type 0
-  EndsCompaction old w (move.Compacting p a) bytes = IsMoving old.core w p (λ st. st ≡ stage.Compacting) × (content_at old p ≡ Some (arc_value a)) × (bytes ≡ spell (arc_value a))
+  EndsCompaction old w (move.Compacting p a) bytes = IsMoving old.core w p (λ st. st ≡ stage.Compacting) × (content_at old p ≡ Some (arc_value a)) ×
+      (bytes ≡ spell (arc_value a))
   EndsCompaction old w _ bytes = ⊥
 
 -- a reload

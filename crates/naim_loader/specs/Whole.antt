@@ -31,14 +31,16 @@ module _ {T B : Type 0} (charge : T → ℕ) (spell : T → List ℕ) (is_value 
   Stands limit running trusted on_disk p (Some x) None = ⊥
   Stands limit running trusted on_disk p (Some x) (Some e) = Standing limit running trusted on_disk p x e
 
-pub record IsWhole {T B D : Type 0} (charge : T → ℕ) (spell : T → List ℕ) (is_value : T → Type 0) (bytes : D → Option (List ℕ)) (reach : D → ℕ) (honest : D → Bool)
+pub record IsWhole {T B D : Type 0} (charge : T → ℕ) (spell : T → List ℕ) (is_value : T → Type 0) (bytes : D → Option (List ℕ)) (reach : D → ℕ)
+    (honest : D → Bool)
     (limit : ℕ) (core : Core) (rows : List (ℕ × Entry T B)) (disk : Home D) (first : D) (counters : Counters) : Type 0 where
   pub limit_is : core.limit ≡ limit
   pub small : limit ≤ 2 ^ 30
   pub workers : 0 < length core.hands
   pub sound : IsSound core
   pub differ : IsDistinct nat_eq (keys_of rows)
-  pub stands : (p : ℕ) → Stands charge spell is_value limit (core.failure ≡ None) (IsGood reach honest limit first) (bytes (told disk)) p (pool_at core.pools p) (lookup (nat_eq p) rows)
+  pub stands : (p : ℕ) → Stands charge spell is_value limit (core.failure ≡ None) (IsGood reach honest limit first) (bytes (told disk)) p (pool_at core.pools p)
+      (lookup (nat_eq p) rows)
   pub home : core.failure ≡ None → is_home disk ≡ is_none core.disk
   pub good : IsGood reach honest limit first → IsGood reach honest limit (told disk)
   pub peak : counters.under_peak ≤ limit

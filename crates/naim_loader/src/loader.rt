@@ -1,5 +1,6 @@
 //! The loader, and what is told of it.
-ghost use Rattle.std.specs.Prelude.{◌≡◌, ◌<◌, ◌≤◌, ◌^◌, ◌*◌, length, true, false, Some, None, IsSome, IfOk, IfErr, MatchOption, option_copied, is_some, option_map};
+ghost use Rattle.std.specs.Prelude.{◌≡◌, ◌<◌, ◌≤◌, ◌^◌, ◌*◌, length, true, false, Some, None, IsSome, IfOk, IfErr, MatchOption, option_copied, is_some};
+ghost use Rattle.std.specs.Prelude.{option_map};
 ghost use Rattle.naim_core.specs.Sound.{IsSound};
 ghost use Rattle.naim_core.specs.State.{pool_at, view_of};
 ghost use Rattle.naim_loader.specs.Calls.{brief_at};
@@ -50,7 +51,15 @@ impl<T: Poolable, B, D: Disk> Model for Loader<T, B, D> {
     ghost use Rattle.naim_loader.specs.Rows.{kept_in};
     ghost use Rattle.naim_loader.specs.Whole.{IsWhole};
 
-    ghost view = { λ l. record { core = l.core; kept = kept_in l.table; disk = told l.disk; home = is_home l.disk; first = l.first.value; counters = l.counters; trail = l.trail.lists } };
+    ghost view = { λ l. record {
+      core = l.core;
+      kept = kept_in l.table;
+      disk = told l.disk;
+      home = is_home l.disk;
+      first = l.first.value;
+      counters = l.counters;
+      trail = l.trail.lists;
+    } };
 
     ghost invariant = { λ l. IsWhole T.charge_of T.encoding T.is_value D.bytes D.reach D.honest l.limit l.core l.table l.disk l.first.value l.counters };
 }
@@ -125,6 +134,14 @@ impl<T: Poolable + Drop, B: Drop, D: Disk + Drop> Loader<T, B, D> {
         ensures within { result.under_peak ≤ self.now.core.limit }
     {
         self.counters
+    }
+
+    /// The charge in bytes of the pool's value. Constant time.
+    pub fn charge(&self, pid: u32) -> u64
+        requires { IsSome (pool_at self.now.core.pools pid) }
+        ensures { option_map (λ x. x.e) (pool_at self.now.core.pools pid) ≡ Some result }
+    {
+        self.told(pid).e
     }
 
     /// The limit in bytes that the loader was made with. Constant time.

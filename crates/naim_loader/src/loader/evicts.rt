@@ -80,8 +80,8 @@ impl<T: Poolable + Drop, B: Drop, D: Disk + Drop> Loader<T, B, D> {
     /// count already. Where they don't, the victim is the free body that was used longest ago, or, where
     /// none is free, the compacted one: `NoVictim` comes exactly where there is neither, `DiskOut` where
     /// it is compacted and a worker has the disk, and `Begun` where its move begins, which the worker is
-    /// to end. `Stopped` comes exactly where a failure is kept. It goes over the pools from the one used
-    /// longest ago to the victim.
+    /// to end. `Stopped` comes exactly where a failure is kept. Where no body is free it passes those
+    /// that are pinned or being compacted; so its time doesn't grow with the pools.
     pub fn evict_begin(&mut self, worker: u32, wanted: u64) -> Evict<T, D>
         requires worker { worker < length self.old.core.hands }
         requires free { (hand_at self.old.core.hands worker).moved ≡ None }

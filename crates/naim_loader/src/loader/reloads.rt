@@ -35,7 +35,8 @@ impl<T: Poolable + Drop, B: Drop, D: Disk + Drop> Loader<T, B, D> {
     )
         requires running { self.old.core.failure ≡ None }
         requires worker { worker < length self.old.core.hands }
-        requires moving { (m : ModeData) × IsMoving self.old.core worker pid (λ st. st ≡ stage.Reloading m (is_some disk)) × LiesAs T.encoding (pid * self.old.core.limit) (pinned_for m) body value.value }
+        requires moving { (m : ModeData) × IsMoving self.old.core worker pid (λ st. st ≡ stage.Reloading m (is_some disk)) × LiesAs T.encoding
+            (pid * self.old.core.limit) (pinned_for m) body value.value }
         requires value { T.is_value value.value }
         requires was { (k : T) × (content_at self.old pid ≡ Some k) × Brings T.charge_of T.encoding D.bytes D.reach D.honest self.old pid disk value.value k }
         requires disk { ComesBack D.reach D.honest self.old disk }

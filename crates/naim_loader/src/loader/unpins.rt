@@ -22,7 +22,8 @@ impl<T: Poolable + Drop, B: Drop, D: Disk + Drop> Loader<T, B, D> {
         requires running { self.old.core.failure ≡ None }
         requires worker { worker < length self.old.core.hands }
         requires held { (hand_at self.old.core.hands worker).read ≡ Some pin.pid }
-        requires pool { (x : PoolData) × (pool_at self.old.core.pools pin.pid ≡ Some x) × (is_read x.stage ≡ true) × ((form ≡ Form.Expanded) ⊎ (is_last_reader x.stage ≡ false)) }
+        requires pool { (x : PoolData) × (pool_at self.old.core.pools pin.pid ≡ Some x) × (is_read x.stage ≡ true) ×
+            ((form ≡ Form.Expanded) ⊎ (is_last_reader x.stage ≡ false)) }
         ensures answer { AnswersUnpin self.old self.new worker pin form result }
         ensures sound { IsSound self.new.core }
     {

@@ -78,7 +78,8 @@ impl<T: Poolable + Drop, B: Drop, D: Disk + Drop> Loader<T, B, D> {
     ) -> Result<Put<T, B>, (WritePin<T>, Put<T, B>)>
         requires worker { worker < length self.old.core.hands }
         requires held { (hand_at self.old.core.hands worker).written ≡ Some pin.pid }
-        requires pool { (x : PoolData) × (pool_at self.old.core.pools pin.pid ≡ Some x) × (is_written x.stage ≡ true) × (T.charge_of (draft_value draft) + length (T.encoding (draft_value draft)) ≤ stated_room x.stage) }
+        requires pool { (x : PoolData) × (pool_at self.old.core.pools pin.pid ≡ Some x) × (is_written x.stage ≡ true) ×
+            (T.charge_of (draft_value draft) + length (T.encoding (draft_value draft)) ≤ stated_room x.stage) }
         requires draft { IsDraft T.charge_of T.encoding T.is_value draft }
         ensures answer { AnswersWrite T.charge_of T.encoding self.old self.new worker pin draft brief result }
         ensures sound { IsSound self.new.core }
@@ -101,7 +102,8 @@ impl<T: Poolable + Drop, B: Drop, D: Disk + Drop> Loader<T, B, D> {
         requires running { self.old.core.failure ≡ None }
         requires worker { worker < length self.old.core.hands }
         requires held { (hand_at self.old.core.hands worker).written ≡ Some pin.pid }
-        requires pool { (x : PoolData) × (pool_at self.old.core.pools pin.pid ≡ Some x) × (is_written x.stage ≡ true) × (T.charge_of (draft_value draft) + length (T.encoding (draft_value draft)) ≤ stated_room x.stage) }
+        requires pool { (x : PoolData) × (pool_at self.old.core.pools pin.pid ≡ Some x) × (is_written x.stage ≡ true) ×
+            (T.charge_of (draft_value draft) + length (T.encoding (draft_value draft)) ≤ stated_room x.stage) }
         requires draft { IsDraft T.charge_of T.encoding T.is_value draft }
         ensures answer { AnswersWrite T.charge_of T.encoding self.old self.new worker pin draft brief result }
         ensures sound { IsSound self.new.core }

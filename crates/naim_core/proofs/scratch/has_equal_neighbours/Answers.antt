@@ -9,7 +9,8 @@ loop-i-init c = λ k h. absurd (omega arith)
 pub returns-then-sorted-i : goal.returns-then-sorted-i
 returns-then-sorted-i c =
     let i = c.loop-i.i in let low = c.loop-i.auto.i in let e : (i - 1) + 1 ≡ i = omega arith in let within = c.loop-i-test.true in
-    let same : get_or c.args.sorted.now (i - 1) 0 ≡ get_or c.args.sorted.now ((i - 1) + 1) 0 = c.if-sorted-i.true ∙ ap (λ n. get_or c.args.sorted.now n 0) (sym e) in
+    let same : get_or c.args.sorted.now (i - 1) 0 ≡ get_or c.args.sorted.now ((i - 1) + 1) 0 = c.if-sorted-i.true ∙ ap (λ n. get_or c.args.sorted.now n 0)
+    (sym e) in
     sym (repeat_found c.args.sorted.now (i - 1) 0 (omega arith) same)
 
 pub loop-i-preserved : goal.loop-i-preserved

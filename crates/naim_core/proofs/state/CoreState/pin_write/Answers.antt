@@ -5,13 +5,38 @@ use Rattle.naim_core.proofs.Told.{pin_write_keeps, pin_write_follows, pin_write_
 use Rattle.naim_core.proofs.state.CoreState.pin_write.Goals as goal
 
 pub returns-in_err-next : goal.returns-in_err-next
-returns-in_err-next c = pin_write_refused (core_of c.self.inside) c.args.self.now c.args.pid c.args.worker c.args.room c.in-Some.pool c.index-hand.result.now c.in_err-next.field-0.0 (record { view = c.self.view_is; sound = c.self.invariant.0; found = sym c.get.ensures ∙ c.in-Some.is; below = c.requires; hand = c.index-hand.ensures }) (sym c.pin_write.ensures ∙ c.in_err-next.was) c.from_residual.result (search rules)
+returns-in_err-next c = pin_write_refused (core_of c.self.inside) c.args.self.now c.args.pid c.args.worker c.args.room c.in-Some.pool c.index-hand.result.now
+    c.in_err-next.field-0.0 (record {
+      view = c.self.view_is;
+      sound = c.self.invariant.0;
+      found = sym c.get.ensures ∙ c.in-Some.is;
+      below = c.requires;
+      hand =
+          c.index-hand.ensures;
+    }) (sym c.pin_write.ensures ∙ c.in_err-next.was) c.from_residual.result (search rules)
 
 pub change_first-requires-clause-task : goal.change_first-requires-clause-task
-change_first-requires-clause-task c = task_same (core_of c.self.inside) c.args.self.now c.args.pid c.args.worker c.in-Some.pool c.index-hand.result.now (record { view = c.self.view_is; sound = c.self.invariant.0; found = sym c.get.ensures ∙ c.in-Some.is; below = c.requires; hand = c.index-hand.ensures })
+change_first-requires-clause-task c = task_same (core_of c.self.inside) c.args.self.now c.args.pid c.args.worker c.in-Some.pool c.index-hand.result.now
+    (record { view = c.self.view_is; sound = c.self.invariant.0; found = sym c.get.ensures ∙ c.in-Some.is; below = c.requires; hand = c.index-hand.ensures })
 
 pub change_first-requires-clause-sound : goal.change_first-requires-clause-sound
-change_first-requires-clause-sound c = pin_write_keeps (core_of c.self.inside) c.args.self.now c.args.pid c.args.worker c.args.room c.in-Some.pool c.in_ok-next.next c.index-hand.result.now (record { view = c.self.view_is; sound = c.self.invariant.0; found = sym c.get.ensures ∙ c.in-Some.is; below = c.requires; hand = c.index-hand.ensures }) (sym c.pin_write.ensures ∙ c.in_ok-next.was) c.self.inside.disk refl
+change_first-requires-clause-sound c = pin_write_keeps (core_of c.self.inside) c.args.self.now c.args.pid c.args.worker c.args.room c.in-Some.pool
+    c.in_ok-next.next c.index-hand.result.now (record {
+      view = c.self.view_is;
+      sound = c.self.invariant.0;
+      found = sym c.get.ensures ∙ c.in-Some.is;
+      below =
+          c.requires;
+      hand = c.index-hand.ensures;
+    }) (sym c.pin_write.ensures ∙ c.in_ok-next.was) c.self.inside.disk refl
 
 pub returns : goal.returns
-returns c = pin_write_follows (core_of c.self.inside) c.args.self.now c.args.pid c.args.worker c.args.room c.in-Some.pool c.in_ok-next.next c.index-hand.result.now (record { view = c.self.view_is; sound = c.self.invariant.0; found = sym c.get.ensures ∙ c.in-Some.is; below = c.requires; hand = c.index-hand.ensures }) (sym c.pin_write.ensures ∙ c.in_ok-next.was) c.self.inside.disk refl _ c.change_first.ensures
+returns c = pin_write_follows (core_of c.self.inside) c.args.self.now c.args.pid c.args.worker c.args.room c.in-Some.pool c.in_ok-next.next
+    c.index-hand.result.now (record {
+      view = c.self.view_is;
+      sound = c.self.invariant.0;
+      found = sym c.get.ensures ∙ c.in-Some.is;
+      below = c.requires;
+      hand =
+          c.index-hand.ensures;
+    }) (sym c.pin_write.ensures ∙ c.in_ok-next.was) c.self.inside.disk refl _ c.change_first.ensures

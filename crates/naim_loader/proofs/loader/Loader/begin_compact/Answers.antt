@@ -29,22 +29,27 @@ put-requires g c =
     let s = c.self.inside.core in let w = c.args.worker in let p = c.args.pid in let x = c.requires.pool.0 in
     let at = ap (λ z. pool_at z.core.pools p) c.self.view_is ∙ c.requires.pool.1 in
     let none = ap (λ z. z.core.failure) c.self.view_is ∙ c.requires.running in
-    let t = there _ _ _ _ _ _ c.self.inside.limit s c.self.inside.table c.self.inside.disk _ c.self.inside.counters p x c.self.invariant at in let e = t.at in rw e refl
+    let t = there _ _ _ _ _ _ c.self.inside.limit s c.self.inside.table c.self.inside.disk _ c.self.inside.counters p x c.self.invariant at in let e = t.at
+    in rw e refl
 
 pub invariant_of-self : goal.invariant_of-self
 invariant_of-self g c =
     let s = c.self.inside.core in let w = c.args.worker in let p = c.args.pid in let x = c.requires.pool.0 in
     let at = ap (λ z. pool_at z.core.pools p) c.self.view_is ∙ c.requires.pool.1 in
     let none = ap (λ z. z.core.failure) c.self.view_is ∙ c.requires.running in
-    compact_begin_whole _ _ _ _ _ _ c.self.inside.limit w p c.args.wanted s c.step.new.core c.self.inside.table c.put.new.self c.self.inside.disk _ c.self.inside.counters c.step.new.counters (lying.Whole c.in-Whole.body) c.self.invariant none c.in-Ok.ensures.taken c.in-Whole.ensures
+    compact_begin_whole _ _ _ _ _ _ c.self.inside.limit w p c.args.wanted s c.step.new.core c.self.inside.table c.put.new.self c.self.inside.disk _
+    c.self.inside.counters c.step.new.counters (lying.Whole c.in-Whole.body) c.self.invariant none c.in-Ok.ensures.taken c.in-Whole.ensures
 
 pub unreachable-requires-in_default-put : goal.unreachable-requires-in_default-put
 unreachable-requires-in_default-put g c =
     let s = c.self.inside.core in let w = c.args.worker in let p = c.args.pid in let x = c.requires.pool.0 in
     let at = ap (λ z. pool_at z.core.pools p) c.self.view_is ∙ c.requires.pool.1 in
     let none = ap (λ z. z.core.failure) c.self.view_is ∙ c.requires.running in
-    let l = put_lies _ _ _ _ _ _ c.self.inside.limit s c.self.inside.table c.put.new.self c.self.inside.disk _ c.self.inside.counters p x lying.Out c.put.result c.self.invariant none at c.put.ensures in
-    not_other g.T.Poolable.encoding c.put.result c.put.ensures.entry.value.value (subst (λ z. LiesAs g.T.Poolable.encoding (p * c.self.inside.limit) z c.put.result c.put.ensures.entry.value.value) c.requires.pool.2 l) c.in_default-put.not-Whole
+    let l = put_lies _ _ _ _ _ _ c.self.inside.limit s c.self.inside.table c.put.new.self c.self.inside.disk _ c.self.inside.counters p x lying.Out c.put.result
+    c.self.invariant none at c.put.ensures in
+    not_other g.T.Poolable.encoding c.put.result c.put.ensures.entry.value.value
+    (subst (λ z. LiesAs g.T.Poolable.encoding (p * c.self.inside.limit) z c.put.result c.put.ensures.entry.value.value) c.requires.pool.2 l)
+    c.in_default-put.not-Whole
 
 pub returns-clause-answer : goal.returns-clause-answer
 returns-clause-answer g c =
@@ -54,13 +59,16 @@ returns-clause-answer g c =
     let t = c.in-Ok.ensures.taken in
     let d = compact_begin_did s c.step.new.core w p c.args.wanted c.self.invariant.sound none t.step in
     let put = c.in-Whole.ensures in
-    let l = put_lies _ _ _ _ _ _ c.self.inside.limit s c.self.inside.table c.put.new.self c.self.inside.disk _ c.self.inside.counters p x lying.Out (lying.Whole c.in-Whole.body) c.self.invariant none at put in
+    let l = put_lies _ _ _ _ _ _ c.self.inside.limit s c.self.inside.table c.put.new.self c.self.inside.disk _ c.self.inside.counters p x lying.Out
+    (lying.Whole c.in-Whole.body) c.self.invariant none at put in
     let same = subst (λ z. LiesAs g.T.Poolable.encoding (p * c.self.inside.limit) z (lying.Whole c.in-Whole.body) put.entry.value.value) c.requires.pool.2 l in
-    let content = ap (λ z. content_at z p) (sym c.self.view_is) ∙ ap (option_map (λ z. z.value)) (kept_lookup c.self.inside.table p ∙ ap (option_map kept_of) put.at) ∙ ap (λ z. Some z) (sym same) in (
+    let content = ap (λ z. content_at z p) (sym c.self.view_is) ∙ ap (option_map (λ z. z.value))
+    (kept_lookup c.self.inside.table p ∙ ap (option_map kept_of) put.at) ∙ ap (λ z. Some z) (sym same) in (
       c.requires.wanted,
       (
         c.requires.victim,
-        steps_view c.args.self.now _ (event.CompactBegin w p c.args.wanted) c.step.new.core c.step.new.counters _ _ _ c.self.view_is t put.kept refl (c.self.invariant.home none ∙ ap is_none (sym d.turned.disk_is)),
+        steps_view c.args.self.now _ (event.CompactBegin w p c.args.wanted) c.step.new.core c.step.new.counters _ _ _ c.self.view_is t put.kept refl
+            (c.self.invariant.home none ∙ ap is_none (sym d.turned.disk_is)),
         content,
       ),
     )

@@ -5,5 +5,6 @@ use Rattle.naim_loader.proofs.loader.Loader.begin_wave.Goals as goal
 
 pub invariant_of-self : goal.invariant_of-self
 invariant_of-self g c =
-    whole_answered _ _ _ _ _ _ c.self.inside.limit c.self.inside.core c.step.new.core (event.BeginWave c.from_vec-tasks.result) c.step.result c.self.inside.table c.self.inside.disk _ c.self.inside.counters c.step.new.counters c.self.invariant c.step.ensures.taken c.step.ensures.refused
+    whole_answered _ _ _ _ _ _ c.self.inside.limit c.self.inside.core c.step.new.core (event.BeginWave c.from_vec-tasks.result) c.step.result
+    c.self.inside.table c.self.inside.disk _ c.self.inside.counters c.step.new.counters c.self.invariant c.step.ensures.taken c.step.ensures.refused
     (begin_still c.self.inside.core c.step.new.core c.from_vec-tasks.result)

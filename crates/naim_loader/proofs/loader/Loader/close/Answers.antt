@@ -14,8 +14,10 @@ returns-clause-trail g c = ended_view c.args.self _ c.self.inside.limit _ c.self
 
 pub returns-clause-honest : goal.returns-clause-honest
 returns-clause-honest g c = ended_good _ _ _ _ _ _ c.args.self _ _ c.self.view_is
-    (whole_stands _ _ _ _ _ _ c.self.inside.limit c.self.inside.core c.self.inside.table c.self.inside.disk _ c.self.inside.counters c.self.inside.trail.lists c.self.invariant) c.home_disk.ensures
+    (whole_stands _ _ _ _ _ _ c.self.inside.limit c.self.inside.core c.self.inside.table c.self.inside.disk _ c.self.inside.counters c.self.inside.trail.lists
+    c.self.invariant) c.home_disk.ensures
 
 pub returns-clause-rest : goal.returns-clause-rest
 returns-clause-rest g c = ended_rest _ _ _ _ _ _ c.args.self _ c.self.view_is
-    (whole_stands _ _ _ _ _ _ c.self.inside.limit c.self.inside.core c.self.inside.table c.self.inside.disk _ c.self.inside.counters c.self.inside.trail.lists c.self.invariant) g.met.D.Disk.told
+    (whole_stands _ _ _ _ _ _ c.self.inside.limit c.self.inside.core c.self.inside.table c.self.inside.disk _ c.self.inside.counters c.self.inside.trail.lists
+    c.self.invariant) g.met.D.Disk.told

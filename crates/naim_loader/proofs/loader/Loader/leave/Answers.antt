@@ -14,8 +14,10 @@ invariant_of-self g c =
     let at = ap (λ z. pool_at z.core.pools p) c.self.view_is ∙ c.requires.pool.1 in
     let none = ap (λ z. z.core.failure) c.self.view_is ∙ c.requires.running in
     let t : Stepped s (event.UnpinRead w p f) c.step.new.core c.self.inside.counters c.step.new.counters =
-    stepped s (event.UnpinRead w p f) c.step.new.core c.self.inside.counters c.step.new.counters c.in_default.ensures.means c.step.ensures.sound c.step.ensures.apart c.step.ensures.limit c.step.ensures.workers c.in_default.ensures.counted in
-    unpin_whole _ _ _ _ _ _ c.self.inside.limit w p f s c.step.new.core x c.self.inside.table c.self.inside.disk _ c.self.inside.counters c.step.new.counters c.self.invariant none at c.requires.pool.3 t
+    stepped s (event.UnpinRead w p f) c.step.new.core c.self.inside.counters c.step.new.counters c.in_default.ensures.means c.step.ensures.sound
+    c.step.ensures.apart c.step.ensures.limit c.step.ensures.workers c.in_default.ensures.counted in
+    unpin_whole _ _ _ _ _ _ c.self.inside.limit w p f s c.step.new.core x c.self.inside.table c.self.inside.disk _ c.self.inside.counters c.step.new.counters
+    c.self.invariant none at c.requires.pool.3 t
 
 pub invariant_of-self-2 : goal.invariant_of-self-2
 invariant_of-self-2 g c =
@@ -23,7 +25,8 @@ invariant_of-self-2 g c =
     let at = ap (λ z. pool_at z.core.pools p) c.self.view_is ∙ c.requires.pool.1 in
     let none = ap (λ z. z.core.failure) c.self.view_is ∙ c.requires.running in
     let k = follows_err (step_of s (event.UnpinRead w p f)) s c.step.new.core c.in-Err.refusal c.in-Err.ensures.means in
-    whole_same _ _ _ _ _ _ c.self.inside.limit s c.step.new.core c.self.inside.table c.self.inside.disk _ c.self.inside.counters c.step.new.counters c.self.invariant k.0 c.in-Err.ensures.counted
+    whole_same _ _ _ _ _ _ c.self.inside.limit s c.step.new.core c.self.inside.table c.self.inside.disk _ c.self.inside.counters c.step.new.counters
+    c.self.invariant k.0 c.in-Err.ensures.counted
 
 pub unreachable-requires : goal.unreachable-requires
 unreachable-requires g c =

@@ -11,4 +11,5 @@ returns-clause-marked g c = marked_view c.args.self.now _ _ c.self.view_is c.aft
 
 pub returns-clause-differ : goal.returns-clause-differ
 returns-clause-differ g c = subst (λ z. IsDistinct nat_eq (keys_of (contents z))) c.self.view_is
-    (whole_stands _ _ _ _ _ _ c.self.inside.limit c.self.inside.core c.self.inside.table c.self.inside.disk _ c.self.inside.counters c.self.inside.trail.lists c.self.invariant).differ
+    (whole_stands _ _ _ _ _ _ c.self.inside.limit c.self.inside.core c.self.inside.table c.self.inside.disk _ c.self.inside.counters c.self.inside.trail.lists
+    c.self.invariant).differ

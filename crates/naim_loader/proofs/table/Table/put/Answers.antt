@@ -2,8 +2,10 @@ use Rattle.naim_loader.proofs.Rows.{changed_at, puts_at}
 use Rattle.naim_loader.proofs.table.Table.put.Goals as goal
 
 pub invariant_of-self : goal.invariant_of-self
-invariant_of-self g c = changed_at c.self.inside.rows.items c.args.self.now c.self.inside.index.items _ c.args.pid c.unwrap-slot.result c.index.result.now c.index_mut-row.result.now _ c.self.invariant c.self.view_is c.requires c.index.ensures c.unwrap-slot.ensures c.index_mut-row.ensures.value
+invariant_of-self g c = changed_at c.self.inside.rows.items c.args.self.now c.self.inside.index.items _ c.args.pid c.unwrap-slot.result c.index.result.now
+    c.index_mut-row.result.now _ c.self.invariant c.self.view_is c.requires c.index.ensures c.unwrap-slot.ensures c.index_mut-row.ensures.value
 
 pub returns : goal.returns
-returns g c = puts_at c.self.inside.rows.items c.args.self.now c.self.inside.index.items _ c.args.pid c.unwrap-slot.result c.index.result.now c.index_mut-row.result.now c.args.body c.replace.new.dest c.replace.result c.self.invariant c.self.view_is c.requires
+returns g c = puts_at c.self.inside.rows.items c.args.self.now c.self.inside.index.items _ c.args.pid c.unwrap-slot.result c.index.result.now
+    c.index_mut-row.result.now c.args.body c.replace.new.dest c.replace.result c.self.invariant c.self.view_is c.requires
     c.index.ensures c.unwrap-slot.ensures c.index_mut-row.ensures.value c.replace.ensures.after c.replace.ensures.value
