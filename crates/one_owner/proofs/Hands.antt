@@ -1,5 +1,6 @@
 -- What the hands of a worker alone tell of the pools.
-use Rattle.std.proofs.Common.{◌≡◌, ℕ, suc, zero, ◌<◌, Bool, true, false, cond, List, [], ◌∷◌, length, Option, Some, None, Contains, refl, sym, ap, subst, arith, ◌∙◌, ◌⊎◌, inl, inr}
+use Rattle.std.proofs.Common.{◌≡◌, ℕ, suc, zero, ◌<◌, Bool, true, false, cond, List, [], ◌∷◌, length, Option, Some, None, Contains, refl, sym, ap}
+use Rattle.std.proofs.Common.{subst, arith, ◌∙◌, ◌⊎◌, inl, inr}
 use Rattle.std.specs.Prelude.{find, count_by, is_none, option_map, reverse, ◌&&◌}
 use Rattle.std.specs.Cmp.{nat_eq_equiv}
 use Rattle.std.specs.List.{list_all, slice_index_or}
@@ -45,7 +46,8 @@ free_hold f none (h ∷ hs) e =
     let c = sum_by-cons (λ k. one (f k)) h hs in let r = free_hold f none hs b.1 in omega arith
 
 -- what a place of the hands holds, where worker 0 works alone
-pub held_by : (place : Hand → Option ℕ) → place empty_hand ≡ None → (s : Core) (h : Hand) (p : ℕ) → IsAlone s h → hands_with place s.hands p ≡ one (holds (place h) p)
+pub held_by : (place : Hand → Option ℕ) → place empty_hand ≡ None → (s : Core) (h : Hand) (p : ℕ) → IsAlone s h
+    → hands_with place s.hands p ≡ one (holds (place h) p)
 held_by place none s h p o =
     let f : Hand → Bool = λ k. holds (place k) p in
     let r = free_hold f (ap (λ z. holds z p) none) o.others o.free in
@@ -78,13 +80,15 @@ none_moves s h p x sound o none at =
     wants movers s p x (hands_with (λ k. k.moved) s.hands p) at (sound.one_mover p) ∙ held_by (λ k. k.moved) refl s h p o ∙ ap (λ z. one (holds z p)) none
 
 -- where nobody holds or moves anything, a pool is free, compacted or offloaded
-pub rest_stage : (s : Core) (p : ℕ) (x : Pool) → IsSound s → IsAlone s empty_hand → pool_at s.pools p ≡ Some x → (x.stage ≡ stage.Free) ⊎ ((x.stage ≡ stage.Compacted) ⊎ (x.stage ≡ stage.Offloaded))
+pub rest_stage : (s : Core) (p : ℕ) (x : Pool) → IsSound s → IsAlone s empty_hand → pool_at s.pools p ≡ Some x
+    → (x.stage ≡ stage.Free) ⊎ ((x.stage ≡ stage.Compacted) ⊎ (x.stage ≡ stage.Offloaded))
 rest_stage s p x sound o at =
     by x.stage (wants read_pins s p x (hands_with (λ k. k.read) s.hands p) at (sound.readers p) ∙ held_by (λ k. k.read) refl s empty_hand p o)
     (wants write_pins s p x (hands_with (λ k. k.written) s.hands p) at (sound.writers p) ∙ held_by (λ k. k.written) refl s empty_hand p o)
     (none_moves s empty_hand p x sound o refl at) (sound.forms_fit p x at).stage_fits
   where
-    by : (st : Stage) → read_pins st ≡ 0 → write_pins st ≡ 0 → movers st ≡ 0 → IsFitStage st → (st ≡ stage.Free) ⊎ ((st ≡ stage.Compacted) ⊎ (st ≡ stage.Offloaded))
+    by : (st : Stage) → read_pins st ≡ 0 → write_pins st ≡ 0 → movers st ≡ 0 → IsFitStage st
+        → (st ≡ stage.Free) ⊎ ((st ≡ stage.Compacted) ⊎ (st ≡ stage.Offloaded))
     by stage.Free r w m f = inl refl
     by (stage.Read readers) r w m f = absurd (omega arith)
     by (stage.Written room) r w m f = absurd (omega arith)
@@ -120,7 +124,8 @@ none_found : {X : Type 0} (test : X → Bool) (xs : List X) (e : X) → find tes
 none_found test [] e h k = absurd (omega (arith, k.1))
 none_found test (x ∷ xs) e h k = by (none_found test xs e) (test x) refl k.0 k.1 k.2 h
   where
-    by : (find test xs ≡ None → Contains xs e → test e ≡ false) → (b : Bool) → test x ≡ b → (i : ℕ) → i < length (x ∷ xs) → slice_index_or (x ∷ xs) i e ≡ e → cond b (Some x) (find test xs) ≡ None → test e ≡ false
+    by : (find test xs ≡ None → Contains xs e → test e ≡ false) → (b : Bool) → test x ≡ b → (i : ℕ) → i < length (x ∷ xs) → slice_index_or (x ∷ xs) i e ≡ e
+        → cond b (Some x) (find test xs) ≡ None → test e ≡ false
     by more true t i lt at n = cc
     by more false t zero lt at n = ap test (sym at) ∙ t
     by more false t (suc i) lt at n = more n (i, (omega arith), at)
@@ -149,10 +154,12 @@ no_victim s h sound o none v =
     sum_none s.pools (λ e k.
     let back = Contains-permutation s.pools (reverse s.pools) e (IsPermutation-reverse s.pools) k in
     let at = lookup-from_Contains nat_eq_equiv e.0 e.1 s.pools sound.one_pool k in
-    none_under e.1.stage e.1.e e.1.c (none_found (λ e. is_free e.1.stage) (reverse s.pools) e fs.0 back) (none_found (λ e. is_compacted e.1.stage) (reverse s.pools) e fs.1 back)
+    none_under e.1.stage e.1.e e.1.c (none_found (λ e. is_free e.1.stage) (reverse s.pools) e fs.0 back)
+    (none_found (λ e. is_compacted e.1.stage) (reverse s.pools) e fs.1 back)
     (none_moves s h e.0 e.1 sound o none at))
   where
-    searches : (a b : Option (ℕ × Pool)) → find (λ e. is_free e.1.stage) (reverse s.pools) ≡ a → find (λ e. is_compacted e.1.stage) (reverse s.pools) ≡ b → option_map_or (λ e. Some e.0) a (option_map (λ e. e.0) b) ≡ None
+    searches : (a b : Option (ℕ × Pool)) → find (λ e. is_free e.1.stage) (reverse s.pools) ≡ a → find (λ e. is_compacted e.1.stage) (reverse s.pools) ≡ b
+        → option_map_or (λ e. Some e.0) a (option_map (λ e. e.0) b) ≡ None
         → (find (λ e. is_free e.1.stage) (reverse s.pools) ≡ None) × (find (λ e. is_compacted e.1.stage) (reverse s.pools) ≡ None)
     searches None None p q n = (p, q)
     searches None (Some x) p q n = cc

@@ -5,5 +5,8 @@ pub mod Hands
 pub mod Placing
 pub mod Pools
 pub mod Refusals
+pub mod Removing
+pub mod Restoring
 pub mod Rounds
 pub mod Taking
+pub mod Writing

@@ -1,7 +1,9 @@
 -- What stays over the calls of one worker alone.
 use Rattle.std.specs.Prelude.{◌≡◌, ◌≤◌, ◌+◌, ℕ, length, Some, true}
 use Rattle.naim_core.specs.Charges.{under_sum}
+use Rattle.naim_core.specs.State.{is_written, pool_at}
 use Rattle.naim_core.specs.declared.event.Failure.{Failure}
+use Rattle.naim_core.specs.declared.pool.Pool.{Pool}
 use Rattle.naim_core.specs.declared.state.Hand.{Hand}
 use Rattle.naim_loader.specs.Paged.{Paged, kept_at}
 use Rattle.one_owner.specs.Alone.{Works}
@@ -29,8 +31,13 @@ pub record Stops {T B D : Type 0} (faults : D → ℕ) (Cause : Failure → Type
   pub keeps : Keeps faults old new
   pub cause : Cause f
 
+-- a pool that is written stays as it is, with the room of its writer
+abbrev pub KeepsWritten : {T B D : Type 0} → Paged T B D → Paged T B D → Type 0
+KeepsWritten old new = (q : ℕ) (x : Pool) → pool_at old.core.pools q ≡ Some x → is_written x.stage ≡ true → pool_at new.core.pools q ≡ Some x
+
 -- worker 0 has the hand h, all pools are the same, and so many bytes fit now
 pub record MakesRoom {T B D : Type 0} (faults : D → ℕ) (old new : Paged T B D) (h : Hand) (wanted : ℕ) : Type 0 where
   pub works : Works new h
   pub keeps : Keeps faults old new
+  pub written : KeepsWritten old new
   pub fits : under_sum new.core.pools + wanted ≤ new.core.limit

@@ -16,7 +16,7 @@ use Rattle.naim_loader.specs.declared.forms.Move.TheVariants as move
 use Rattle.naim_loader.specs.Moves.{IsMoving}
 use Rattle.naim_loader.specs.Paged.{Paged, content_at, IsGood, IsTrusted}
 use Rattle.one_owner.specs.Alone.{IsAlone, Works, idle}
-use Rattle.one_owner.specs.Going.{Keeps}
+use Rattle.one_owner.specs.Going.{Keeps, KeepsWritten}
 
 -- how many forms a pool that nobody holds can still go further
 abbrev pub forms_left : Stage → ℕ
@@ -76,11 +76,13 @@ module _ {T B D : Type 0} (spell : T → List ℕ) (reach : D → ℕ) (honest :
 pub record Turn {T B D : Type 0} (faults : D → ℕ) (old new : Paged T B D) : Type 0 where
   pub works : Works new (idle old.core)
   pub keeps : Keeps faults old new
+  pub written : KeepsWritten old new
   pub left : rounds_left new.core ≡ rounds_left old.core
 
 -- a round has ended: the bytes fit, or fewer rounds are left
 pub record Round {T B D : Type 0} (faults : D → ℕ) (old new : Paged T B D) (wanted : ℕ) (fits : Bool) : Type 0 where
   pub works : Works new (idle old.core)
   pub keeps : Keeps faults old new
+  pub written : KeepsWritten old new
   pub room : fits ≡ true → under_sum new.core.pools + wanted ≤ new.core.limit
   pub fewer : fits ≡ false → rounds_left new.core < rounds_left old.core

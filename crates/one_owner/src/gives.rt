@@ -55,7 +55,7 @@ fn leave_whole<T: Poolable + Drop, B: Drop, D: Disk + Drop>(
 {
     match make_room(alloc, loader, charge) {
         Ok(()) => {
-            put_back(loader, pin, None);
+            leave(loader, pin, None);
             Ok(())
         }
         Err(failure) => {
@@ -83,7 +83,7 @@ fn leave_packed<T: Poolable + Drop, B: Drop, D: Disk + Drop>(
     };
     match make_room(alloc, loader, bytes.len() as u64) {
         Ok(()) => {
-            put_back(loader, pin, Some(bytes));
+            leave(loader, pin, Some(bytes));
             Ok(())
         }
         Err(failure) => {
@@ -94,7 +94,7 @@ fn leave_packed<T: Poolable + Drop, B: Drop, D: Disk + Drop>(
 }
 
 /// Gives it back where there is room for it.
-fn put_back<T: Poolable + Drop, B: Drop, D: Disk + Drop>(
+fn leave<T: Poolable + Drop, B: Drop, D: Disk + Drop>(
     loader: &mut Loader<T, B, D>,
     pin: ReadPin<T>,
     packed: Option<Vec<u8>>,
@@ -102,7 +102,8 @@ fn put_back<T: Poolable + Drop, B: Drop, D: Disk + Drop>(
     requires reads { IsReading loader.old pin.pid }
     requires content { content_at loader.old pin.pid ≡ Some (arc_value pin.body) }
     requires packed { IsPacked T.encoding packed (arc_value pin.body) }
-    requires fits { under_sum loader.old.core.pools + bytes_of (unpin_form packed) (T.charge_of (arc_value pin.body)) (length (T.encoding (arc_value pin.body))) ≤ loader.old.core.limit }
+    requires fits { under_sum loader.old.core.pools + bytes_of (unpin_form packed) (T.charge_of (arc_value pin.body)) (length (T.encoding (arc_value pin.body)))
+        ≤ loader.old.core.limit }
     ensures { GivesBack D.faults loader.old loader.new }
 {
     stands(loader);

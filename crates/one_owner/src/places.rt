@@ -37,8 +37,10 @@ pub fn place<T: Poolable + Drop, B: Drop, D: Disk + Drop>(
     requires below { pid < 131072 }
     requires room { length loader.old.core.pools < 4096 }
     ensures ok { IfOk result (λ _. Places D.faults loader.old loader.new pid body brief) }
-    ensures err { IfErr result (λ f. Stops D.faults (PlaceCause (D.faults loader.old.disk) (D.faults loader.new.disk) pid (length (T.encoding body)) loader.old.core.limit) loader.old loader.new f) }
-    ensures too_small { loader.old.core.limit < length (T.encoding body) → result ≡ Err (failure.TooSmall pid (length (T.encoding body)) loader.old.core.limit) }
+    ensures err { IfErr result (λ f. Stops D.faults (PlaceCause (D.faults loader.old.disk) (D.faults loader.new.disk) pid (length (T.encoding body))
+        loader.old.core.limit) loader.old loader.new f) }
+    ensures too_small { loader.old.core.limit < length (T.encoding body)
+        → result ≡ Err (failure.TooSmall pid (length (T.encoding body)) loader.old.core.limit) }
 {
     let limit = loader.limit();
     let need = body.compact_len();
@@ -69,7 +71,8 @@ fn place_whole<T: Poolable + Drop, B: Drop, D: Disk + Drop>(
     requires charge { charge ≡ T.charge_of body }
     requires fits { charge ≤ loader.old.core.limit }
     ensures ok { IfOk result (λ _. Places D.faults loader.old loader.new pid body brief) }
-    ensures err { IfErr result (λ f. Stops D.faults (PlaceCause (D.faults loader.old.disk) (D.faults loader.new.disk) pid (length (T.encoding body)) loader.old.core.limit) loader.old loader.new f) }
+    ensures err { IfErr result (λ f. Stops D.faults (PlaceCause (D.faults loader.old.disk) (D.faults loader.new.disk) pid (length (T.encoding body))
+        loader.old.core.limit) loader.old loader.new f) }
 {
     let Ok(body) = Arc::new(alloc, body) else {
         return Err(stop(loader, Failure::Memory, None));
@@ -100,7 +103,8 @@ fn place_packed<T: Poolable + Drop, B: Drop, D: Disk + Drop>(
     requires charge { charge ≡ T.charge_of body }
     requires fits { length (T.encoding body) ≤ loader.old.core.limit }
     ensures ok { IfOk result (λ _. Places D.faults loader.old loader.new pid body brief) }
-    ensures err { IfErr result (λ f. Stops D.faults (PlaceCause (D.faults loader.old.disk) (D.faults loader.new.disk) pid (length (T.encoding body)) loader.old.core.limit) loader.old loader.new f) }
+    ensures err { IfErr result (λ f. Stops D.faults (PlaceCause (D.faults loader.old.disk) (D.faults loader.new.disk) pid (length (T.encoding body))
+        loader.old.core.limit) loader.old loader.new f) }
 {
     stands(loader);
     let Ok(bytes) = body.encode(alloc) else {

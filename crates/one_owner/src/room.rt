@@ -17,8 +17,9 @@ use std::sync::Arc;
 
 /// Makes room for `wanted` bytes beside those that nobody holds: free bodies are compacted, the one used longest ago
 /// first, and then compact spellings are written to the disk. The error is the failure that the loader keeps from then
-/// on: `Repository` where the disk failed, or `Memory`. It takes at most two rounds for each pool, each of which goes
-/// over the pools, and what the spelling or the writing of those that go takes; where the bytes fit, constant time.
+/// on: `Repository` where the disk failed, or `Memory`. It takes at most two rounds for each pool, each in a time that
+/// doesn't grow with the pools, and what the spelling or the writing of those that go takes; where the bytes fit,
+/// constant time.
 pub fn make_room<T: Poolable + Drop, B: Drop, D: Disk + Drop>(
     alloc: Global,
     loader: &mut Loader<T, B, D>,

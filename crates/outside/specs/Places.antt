@@ -1,5 +1,6 @@
 -- A disk's places, and what reads and writes do to them.
-use Rattle.std.specs.Prelude.{◌≡◌, ℕ, ◌+◌, ◌/◌, ◌%◌, ◌^◌, ◌<◌, ◌≤◌, ◌==◌, Bool, if◌then◌else◌, bit_xor, IsTrue, List, slice_index, None, Some, Result, IfOk, MatchResult}
+use Rattle.std.specs.Prelude.{◌≡◌, ℕ, ◌+◌, ◌/◌, ◌%◌, ◌^◌, ◌<◌, ◌≤◌, ◌==◌, Bool, if◌then◌else◌, bit_xor, IsTrue, List, slice_index, None, Some, Result}
+use Rattle.std.specs.Prelude.{IfOk, MatchResult}
 use Rattle.std.specs.declared.option.Option.{Option}
 
 -- the byte at a place: 0 past the end of what is told
@@ -38,4 +39,5 @@ turned_at bit k byte = if k == bit / 8 then bit_xor byte (2 ^ (bit % 8)) else by
 
 -- the buffer's first n bytes are those of the places from `at` on, but for the one bit if this is the read that is bent
 abbrev pub GivesBent : Option (List ℕ) → ℕ → ℕ → List ℕ → Bool → ℕ → Type 0
-GivesBent told at n buffer is_bent bit = (k : ℕ) → k < n → slice_index buffer k ≡ (if is_bent then turned_at bit k (byte_at told (at + k)) else byte_at told (at + k))
+GivesBent told at n buffer is_bent bit = (k : ℕ) → k < n
+    → slice_index buffer k ≡ (if is_bent then turned_at bit k (byte_at told (at + k)) else byte_at told (at + k))

@@ -1,5 +1,6 @@
 -- What the calls of the loader leave in its rows.
-use Rattle.std.proofs.Common.{◌≡◌, ℕ, ◌<◌, Bool, true, false, cond, List, [], ◌∷◌, length, Option, Some, None, Result, Ok, Err, refl, sym, ap, subst, arith, ◌∙◌}
+use Rattle.std.proofs.Common.{◌≡◌, ℕ, ◌<◌, Bool, true, false, cond, List, [], ◌∷◌, length, Option, Some, None, Result, Ok, Err, refl, sym, ap, subst}
+use Rattle.std.proofs.Common.{arith, ◌∙◌}
 use Rattle.std.specs.Prelude.{is_some, is_none}
 use Rattle.naim_core.specs.Charges.{under_sum}
 use Rattle.naim_core.specs.Rows
@@ -43,8 +44,10 @@ inserted s new p f e c none h =
     let row = Rows.insert_row s.limit (under_sum s.pools) (is_some (pool_at s.pools p)) (length s.pools) f e c in
     made row (Rows.inserted f e c) (permit row (Rows.inserted f e c)) refl (sym (running s (event.Insert p f e c) none) ∙ h)
   where
-    made : (row : Rows.Row) (x : Pool) (r : Result Pool Refusal) → permit row x ≡ r → then_state r (λ y. record s { pools = (p, y) ∷ s.pools }) ≡ Ok new → new ≡ record s { pools = (p, x) ∷ s.pools }
-    made row x (Ok y) e k = let same = permit_gives row x y e in let n : record s { pools = (p, y) ∷ s.pools } ≡ new = cc in sym n ∙ ap (λ z. record s { pools = (p, z) ∷ s.pools }) (sym same)
+    made : (row : Rows.Row) (x : Pool) (r : Result Pool Refusal) → permit row x ≡ r → then_state r (λ y. record s { pools = (p, y) ∷ s.pools }) ≡ Ok new
+        → new ≡ record s { pools = (p, x) ∷ s.pools }
+    made row x (Ok y) e k = let same = permit_gives row x y e in let n : record s { pools = (p, y) ∷ s.pools } ≡ new = cc in sym n ∙ ap
+        (λ z. record s { pools = (p, z) ∷ s.pools }) (sym same)
     made row x (Err r) e k = cc
 
 some_hand : (hands : List Hand) (p : ℕ) → (hand_at hands 0).moved ≡ Some p → 0 < length hands
@@ -52,7 +55,8 @@ some_hand [] p h = cc
 some_hand (x ∷ xs) p h = omega arith
 
 module _ {T B D : Type 0} (charge : T → ℕ) (spell : T → List ℕ) where
-  pub puts : (old new : Paged T B D) (p : ℕ) (d : Draft T) (brief : B) → IsCalm old → AnswersInsert charge spell old new p d brief put.Done → Puts charge spell old new p d
+  pub puts : (old new : Paged T B D) (p : ℕ) (d : Draft T) (brief : B) → IsCalm old → AnswersInsert charge spell old new p d brief put.Done
+      → Puts charge spell old new p d
   puts old new p d brief calm i =
       let is = inserted old.core new.core p (draft_form d) (charge (draft_value d)) (length (spell (draft_value d))) calm.running i.step in
       let home = ap (λ z. z.disk) is ∙ calm.disk in
@@ -63,7 +67,8 @@ module _ {T B D : Type 0} (charge : T → ℕ) (spell : T → List ℕ) where
       }
 
   -- where nothing came in, the disk is still at home
-  pub home_still : (old new : Paged T B D) (p : ℕ) (d : Draft T) (brief : B) (r : Put T B) → old.home ≡ true → AnswersInsert charge spell old new p d brief r → (r ≡ put.Done → ⊥) → new.home ≡ true
+  pub home_still : (old new : Paged T B D) (p : ℕ) (d : Draft T) (brief : B) (r : Put T B) → old.home ≡ true → AnswersInsert charge spell old new p d brief r
+      → (r ≡ put.Done → ⊥) → new.home ≡ true
   home_still old new p d brief put.Done home a other = absurd (other refl)
   home_still old new p d brief (put.NeedsRoom bytes back brief_back) home a other = ap (λ z. z.home) a.0 ∙ home
   home_still old new p d brief (put.TooSmall pid need limit) home a other = ap (λ z. z.home) a.3.same ∙ home
@@ -71,7 +76,8 @@ module _ {T B D : Type 0} (charge : T → ℕ) (spell : T → List ℕ) where
 
 module _ {T B D : Type 0} (spell : T → List ℕ) where
   -- where no move begins, nothing changes
-  pub unmoved : (old new : Paged T B D) (w wanted : ℕ) (r : Evict T D) → AnswersEvict spell old new w wanted r → ((m : Move T D) → r ≡ evict.Begun m → ⊥) → new ≡ old
+  pub unmoved : (old new : Paged T B D) (w wanted : ℕ) (r : Evict T D) → AnswersEvict spell old new w wanted r → ((m : Move T D) → r ≡ evict.Begun m → ⊥)
+      → new ≡ old
   unmoved old new w wanted (evict.Begun m) a other = absurd (other m refl)
   unmoved old new w wanted evict.Fits a other = a.0
   unmoved old new w wanted evict.NoVictim a other = a.0
@@ -84,7 +90,8 @@ brought_home l (Some d) h = refl
 
 module _ {T B D : Type 0} (charge : T → ℕ) (spell : T → List ℕ) (is_value : T → Type 0) (bytes : D → Option (List ℕ)) (reach : D → ℕ) (honest : D → Bool) where
   -- a move that begins can fail
-  pub can_fail : (old new : Paged T B D) (wanted : ℕ) (m : Move T D) → StandsFor charge spell is_value bytes reach honest old → IsCalm old → 0 < length old.core.hands → AnswersEvict spell old new 0 wanted (evict.Begun m) → CanFail reach honest new m
+  pub can_fail : (old new : Paged T B D) (wanted : ℕ) (m : Move T D) → StandsFor charge spell is_value bytes reach honest old → IsCalm old
+      → 0 < length old.core.hands → AnswersEvict spell old new 0 wanted (evict.Begun m) → CanFail reach honest new m
   can_fail old new wanted (move.Compacting p a) stands calm below b =
       let t = b.1.1 in let has = move_handed charge spell bytes reach honest old new 0 wanted (move.Compacting p a) stands.sound stands.good below b in
       let d = compact_begin_did old.core new.core 0 p wanted stands.sound calm.running t.step in
@@ -99,7 +106,8 @@ module _ {T B D : Type 0} (charge : T → ℕ) (spell : T → List ℕ) (is_valu
   can_fail old new wanted (move.FromDisk p filed number d) stands calm below b = absurd b.1
 
   -- a pool that can be pinned is pinned, or memory is wanting
-  pub only_pins : (old new : Paged T B D) (w : ℕ) (after : Core) (r : PinAnswer T D) → old.core.failure ≡ None → step_of old.core (event.PinRead w 0) ≡ Ok after → step_of old.core (event.ReloadBegin w 0 mode.Read) ≡ Err WrongForm
+  pub only_pins : (old new : Paged T B D) (w : ℕ) (after : Core) (r : PinAnswer T D) → old.core.failure ≡ None → step_of old.core (event.PinRead w 0) ≡ Ok after
+      → step_of old.core (event.ReloadBegin w 0 mode.Read) ≡ Err WrongForm
       → AnswersPin charge spell bytes reach honest old new w 0 mode.Read r → ((x : Pin T) → r ≡ answer.Ready x → ⊥) → (r ≡ answer.Memory → ⊥) → ⊥
   only_pins old new w after (answer.Ready x) none pins away a ready memory = ready x refl
   only_pins old new w after (answer.Reload m) none pins away a ready memory = (let no = sym away ∙ a.0.step in cc)
@@ -119,7 +127,8 @@ pub first_read : (s new : Core) → OneOfTwo s stage.Free None → step_of s (ev
 first_read s new o h = record { charge = o.charge; len = o.len; is = (let both = sym h ∙ first_pins s o in cc) }
 
 abbrev after_both : ℕ → ℕ → Core
-after_both e c = record (one_of_two (stage.Read 2) (Some 0) e c) { hands = record { task = None; written = None; read = Some 0; moved = None } ∷ record { task = None; written = None; read = Some 0; moved = None } ∷ [] }
+after_both e c = record (one_of_two (stage.Read 2) (Some 0) e c)
+    { hands = record { task = None; written = None; read = Some 0; moved = None } ∷ record { task = None; written = None; read = Some 0; moved = None } ∷ [] }
 
 pub again_pins : (s : Core) (o : OneOfTwo s (stage.Read 1) (Some 0)) → step_of s (event.PinRead 1 0) ≡ Ok (after_both o.charge o.len)
 again_pins s o = subst (λ z. step_of z (event.PinRead 1 0) ≡ Ok (after_both o.charge o.len)) (sym o.is) refl

@@ -44,14 +44,15 @@ pub record Stands {T B D : Type 0} (l : Paged T B D) (w : ℕ) (x y : Option (Re
   pub others : HasBody l y
 
 -- worker w, who reads what r says and has the pin x, moves p at such a stage, by the disk or not; the other one has the pin y
-pub record Moves {T B D : Type 0} (l : Paged T B D) (w : ℕ) (x y : Option (ReadPin T)) (r : Option ℕ) (p : ℕ) (by_disk : Bool) (At : Stage → Type 0) : Type 0 where
-  pub works : Works l w (record (grip r) { moved = Some p }) (grip (pool_of y))
-  pub disk : l.core.disk ≡ (if by_disk then Some w else None)
-  pub home : l.home ≡ (if by_disk then false else true)
-  pub sound : IsSound l.core
-  pub moving : IsMoving l.core w p At
-  pub mine : HasBody l x
-  pub others : HasBody l y
+pub record Moves {T B D : Type 0} (l : Paged T B D) (w : ℕ) (x y : Option (ReadPin T)) (r : Option ℕ) (p : ℕ) (by_disk : Bool) (At : Stage → Type 0) : Type 0
+  where
+    pub works : Works l w (record (grip r) { moved = Some p }) (grip (pool_of y))
+    pub disk : l.core.disk ≡ (if by_disk then Some w else None)
+    pub home : l.home ≡ (if by_disk then false else true)
+    pub sound : IsSound l.core
+    pub moving : IsMoving l.core w p At
+    pub mine : HasBody l x
+    pub others : HasBody l y
 
 -- worker w writes p within that room and moves nothing; the other one has the pin y, which is of another pool
 pub record HoldsWrite {T B D : Type 0} (l : Paged T B D) (w : ℕ) (y : Option (ReadPin T)) (p room : ℕ) : Type 0 where

@@ -236,7 +236,8 @@ fn restore<T: Poolable + Drop, D: Disk + Drop>(
     requires lies { (d : D) → D.honest d ≡ false }
     requires worker { worker < 2 }
     requires moves { Moves pools.old worker None other.now (Some pid) pid true (λ st. st ≡ stage.Reloading mode.Read true) }
-    requires content { (k : T) × (content_at pools.old pid ≡ Some k) × (filed ≡ record_of (pid * pools.old.core.limit) (T.encoding k)) × (charge ≡ T.charge_of k) }
+    requires content { (k : T) × (content_at pools.old pid ≡ Some k) × (filed ≡ record_of (pid * pools.old.core.limit) (T.encoding k)) ×
+        (charge ≡ T.charge_of k) }
     ensures { Stands pools.new worker (Some result) other.now }
 {
     let mut disk = disk;

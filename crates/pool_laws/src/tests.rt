@@ -49,7 +49,8 @@ impl Poolable for Pair {
         })
     }
 
-    ghost tells_apart = { λ x y _ _ e. let p : x.first ≡ y.first = Prim.cc in let q : x.second ≡ y.second = Prim.cc in λ i. record { first = p i; second = q i } };
+    ghost tells_apart = { λ x y _ _ e. let p : x.first ≡ y.first = Prim.cc in let q : x.second ≡ y.second = Prim.cc in λ i.
+        record { first = p i; second = q i } };
 
     ghost bounds = { λ x _. Prim.search rules };
 }

@@ -23,7 +23,8 @@ pub HasBytes-unique : (told : Option (List ℕ)) (place : ℕ) (xs ys : List ℕ
 HasBytes-unique told place xs ys long p q = ext_get_or 0 xs ys long (λ i below. p i below ∙ sym (q i (subst (λ (n : ℕ). i < n) long below)))
 
 -- a write of a front of the piece, and then one of a front of the rest
-pub Overwrites-more : (a b c : Option (List ℕ)) (place i n : ℕ) (piece : List ℕ) → Overwrites a b place i piece → Overwrites b c (place + i) n (drop i piece) → Overwrites a c place (i + n) piece
+pub Overwrites-more : (a b c : Option (List ℕ)) (place i n : ℕ) (piece : List ℕ) → Overwrites a b place i piece → Overwrites b c (place + i) n (drop i piece)
+    → Overwrites a c place (i + n) piece
 Overwrites-more a b c place i n piece first second = record {
   inside = λ k below. elim (cases_lt k i) [
     | inl h ↦ second.before (place + k) (omega arith) ∙ first.inside k h

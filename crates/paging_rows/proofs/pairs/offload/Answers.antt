@@ -19,4 +19,5 @@ pub offload_end-requires-clause-disk : goal.offload_end-requires-clause-disk
 offload_end-requires-clause-disk g c = (c.requires.moves.home, λ t. absurd (doubted g.D.Disk.reach g.D.Disk.honest c.args.pools.now c.requires.lies t))
 
 pub returns : goal.returns
-returns g c = offload_stands c.args.pools.now c.offload_end.new.self c.args.worker c.args.pid c.args.mine.now c.args.other.now _ c.requires.worker c.requires.moves (c.offload_end.ensures.ends c.requires.moves.works.running)
+returns g c = offload_stands c.args.pools.now c.offload_end.new.self c.args.worker c.args.pid c.args.mine.now c.args.other.now _ c.requires.worker
+    c.requires.moves (c.offload_end.ensures.ends c.requires.moves.works.running)

@@ -13,10 +13,12 @@ pub unpack-requires-clause-moves : goal.unpack-requires-clause-moves
 unpack-requires-clause-moves g c =
     let a = rw c.in-Reload-FromBytes.field-0-is at c.in-Reload-FromBytes.ensures.answer in
     subst (λ q. Moves c.pin_read.new.self c.args.worker None c.args.other.now (Some q) q false (λ st. st ≡ stage.Reloading mode.Read false)) (sym a.1.0)
-    (reload_moves c.args.pools.now c.pin_read.new.self c.args.worker c.args.pid c.args.other.now stage.Compacted c.requires.worker c.stands.ensures.sound c.pin_read.ensures.sound c.requires.stands a.0 a.1.1)
+    (reload_moves c.args.pools.now c.pin_read.new.self c.args.worker c.args.pid c.args.other.now stage.Compacted c.requires.worker c.stands.ensures.sound
+    c.pin_read.ensures.sound c.requires.stands a.0 a.1.1)
 
 pub restore-requires-clause-moves : goal.restore-requires-clause-moves
 restore-requires-clause-moves g c =
     let a = rw c.in-Reload-FromDisk.field-0-is at c.in-Reload-FromDisk.ensures.answer in
     subst (λ q. Moves c.pin_read.new.self c.args.worker None c.args.other.now (Some q) q true (λ st. st ≡ stage.Reloading mode.Read true)) (sym a.1.0)
-    (reload_moves c.args.pools.now c.pin_read.new.self c.args.worker c.args.pid c.args.other.now stage.Offloaded c.requires.worker c.stands.ensures.sound c.pin_read.ensures.sound c.requires.stands a.0 a.1.1)
+    (reload_moves c.args.pools.now c.pin_read.new.self c.args.worker c.args.pid c.args.other.now stage.Offloaded c.requires.worker c.stands.ensures.sound
+    c.pin_read.ensures.sound c.requires.stands a.0 a.1.1)

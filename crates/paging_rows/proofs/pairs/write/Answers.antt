@@ -11,8 +11,10 @@ pub end_write-requires-clause-writes : goal.end_write-requires-clause-writes
 end_write-requires-clause-writes g c =
     let a = rw c.in-Ready-Write.field-0-is at c.in-Ready-Write.ensures.answer in
     subst (λ q. HoldsWrite c.pin_write.new.self c.args.worker c.args.other.now q (c.charge-charge.result + c.from.result)) (sym a.1.0)
-    (write_begun c.args.pools.now c.pin_write.new.self c.args.worker c.args.pid (c.charge-charge.result + c.from.result) c.args.other.now c.requires.worker c.stands.ensures.sound c.pin_write.ensures.sound c.requires.stands a.0)
+    (write_begun c.args.pools.now c.pin_write.new.self c.args.worker c.args.pid (c.charge-charge.result + c.from.result) c.args.other.now c.requires.worker
+    c.stands.ensures.sound c.pin_write.ensures.sound c.requires.stands a.0)
 
 pub end_write-requires-clause-fits : goal.end_write-requires-clause-fits
 end_write-requires-clause-fits g c =
-    subst (λ z. g.T.Poolable.charge_of z + length (g.T.Poolable.encoding z) ≤ c.charge-charge.result + c.from.result) (sym c.in-Ok.ensures.ok) (let a = c.charge-charge.ensures.charge in let b = c.compact_len.ensures.len in let d = c.from.ensures in omega arith)
+    subst (λ z. g.T.Poolable.charge_of z + length (g.T.Poolable.encoding z) ≤ c.charge-charge.result + c.from.result) (sym c.in-Ok.ensures.ok)
+    (let a = c.charge-charge.ensures.charge in let b = c.compact_len.ensures.len in let d = c.from.ensures in omega arith)

@@ -38,7 +38,8 @@ picked_spec 𝓤 𝓛 𝓜 𝓡 wired T laws =
     let answer : denote.Triple.Entry.Res E.signature κs = record { marker = record {}; value = pick } in
     let owned : Fml = (type_at E.signature.result κs).own_val answer (made ∷ []) in
     let start : (walk_of 𝓛 E stays said).Ghost = ((κs, qs, bounds, args, tt), pick) in
-    qed 𝓛 ((raw (alive 𝓛 E.signature κs qs) ⊛ ‵ (owns (types_at E.signature.params κs) args tt)) ∷ raw ((said κs args).requires pick) ∷ []) ∵ split ! $ keep ! (0 ∷ []) $
+    qed 𝓛 ((raw (alive 𝓛 E.signature κs qs) ⊛ ‵ (owns (types_at E.signature.params κs) args tt)) ∷ raw ((said κs args).requires pick) ∷ []) ∵ split ! $ keep !
+    (0 ∷ []) $
     enter ! run.C run.Λ body [] _ $ alloc_all ! (λ l. pass_all ! refl tt $
     sets ! (agg ! (no_more !)) refl (tt, tt) $ sets ! (agg ! (and_then ! (get ! refl) (no_more !))) refl (tt, (tt, tt)) $
     returns ! (look_at ! 0 refl) $ free_all ! refl $
