@@ -1,6 +1,7 @@
 -- The frame of a program, and the program that is put together of the routines of functions and its frame: it is their
 -- lowered program.
-use Rattle.std.proofs.Common.{◌≡◌, ℕ, zero, suc, ◌+◌, ◌<◌, Bool, true, false, List, [], ◌∷◌, ◌++◌, map, length, take, get_or, Some, refl, sym, ◌∙◌, ap, subst, arith, slice_set}
+use Rattle.std.proofs.Common.{◌≡◌, ℕ, zero, suc, ◌+◌, ◌<◌, Bool, true, false, List, [], ◌∷◌, ◌++◌, map, length, take, get_or, Some, refl, sym, ◌∙◌, ap}
+use Rattle.std.proofs.Common.{subst, arith, slice_set}
 use Rattle.std.specs.Prelude.{◌||◌, nat_eq, is_some, replicate, if◌then◌else◌}
 use Rattle.std.specs.List.{AllByRecursion}
 use Rattle.std.proofs.lemmas.List.{append-nil, append_assoc, take_more}
@@ -19,7 +20,8 @@ use Rattle.c_typed.specs.Trees.{Function}
 use Rattle.c_lower.specs.Lowering.{entry_of, routine_of, sites_of}
 use Rattle.lower_laws.specs.Programs.{lowered_program, rows_from}
 use Rattle.c_module.specs.Assembling.{by_pid}
-use Rattle.c_module.specs.Frames.{among, assembled, first_mark, frame_rows, has_object, kept_rows, marks, marks_behind, objects_behind, other_marks, other_objects, row_if}
+use Rattle.c_module.specs.Frames.{among, assembled, first_mark, frame_rows, has_object, kept_rows, marks, marks_behind, objects_behind, other_marks}
+use Rattle.c_module.specs.Frames.{other_objects, row_if}
 use Rattle.c_module.proofs.Assembled.{routines_are, same_pid}
 
 -- ## Marks

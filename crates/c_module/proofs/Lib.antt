@@ -8,4 +8,5 @@ pub mod Names
 pub mod Ready
 pub mod Rooms
 pub mod Taken
+pub mod Typings
 pub mod Uncounted

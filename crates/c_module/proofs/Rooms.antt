@@ -1,5 +1,6 @@
 -- Room for the routines of a module behind those of the modules before it.
-use Rattle.std.proofs.Common.{◌≡◌, ◌≢◌, ℕ, zero, suc, ◌+◌, ◌<◌, ◌≤◌, Bool, true, false, List, [], ◌∷◌, ◌++◌, length, map, drop, take, get_or, Option, Some, None, refl, sym, ◌∙◌, ap, subst, arith, sum_by, slice_get, slice_set}
+use Rattle.std.proofs.Common.{◌≡◌, ◌≢◌, ℕ, zero, suc, ◌+◌, ◌<◌, ◌≤◌, Bool, true, false, List, [], ◌∷◌, ◌++◌, length, map, drop, take, get_or, Option}
+use Rattle.std.proofs.Common.{Some, None, refl, sym, ◌∙◌, ap, subst, arith, sum_by, slice_get, slice_set}
 use Rattle.std.specs.Prelude.{if◌then◌else◌, is_some, nat_eq}
 use Rattle.std.specs.List.{AllByRecursion}
 use Rattle.std.specs.Map.{values_of}
@@ -19,7 +20,7 @@ use Rattle.sym_tables.specs.declared.symbol.Standing.TheVariants.{Defined}
 use Rattle.sym_tables.specs.declared.symbol.Symbol.{Symbol}
 use Rattle.sym_tables.specs.Listing.{shape_of}
 use Rattle.sym_tables.specs.Symbols.{routine_part}
-use Rattle.sym_tables.specs.Table.{Table, routines, symbol_at}
+use Rattle.sym_tables.specs.Table.{Table, symbol_at}
 use Rattle.sym_tables.proofs.Limits.{within}
 use Rattle.c_typed.specs.declared.function.TypedFunction.{TypedFunction}
 use Rattle.c_typed.specs.Trees.{Function}

@@ -25,7 +25,8 @@ use Rattle.lower_laws.specs.Functions.{layout_of, first_numbers, body_past, last
 use Rattle.lower_laws.specs.Laws.{SizesAreNumbers}
 use Rattle.lower_laws.specs.Layouts.{Layout}
 use Rattle.lower_laws.specs.Operations.{load, store, conv_past, unary_code, update_code}
-use Rattle.lower_laws.specs.Statements.{optional_open, optional_code, condition_code, no_value_code, local_past, open_behind, sections_open, tests_code, stmt_code, sections_code}
+use Rattle.lower_laws.specs.Statements.{optional_open, optional_code, condition_code, no_value_code, local_past, open_behind, sections_open, tests_code}
+use Rattle.lower_laws.specs.Statements.{stmt_code, sections_code}
 use Rattle.lower_laws.specs.Switches.{labels_code, label_tests}
 use Rattle.c_module.specs.Appending.{CountsAreNoLimits}
 use Rattle.c_module.specs.Limits.{KeepsLimits}

@@ -9,3 +9,4 @@ pub mod Taking
 pub mod Texts
 pub mod Told
 pub mod Verdict
+pub mod WellTyped

@@ -1,11 +1,12 @@
 //! Whether files are modules that make one program.
-ghost use Rattle.std.specs.Prelude.{◌≡◌, [], None, IfOk, IfErr, IsErr};
+ghost use Rattle.std.specs.Prelude.{◌≡◌, [], None, IfOk, IfErr, IsErr, OnOk};
 ghost use Rattle.linker.specs.Linking.{refusal};
 ghost use Rattle.outside.specs.Faults.{NoneFalls};
 ghost use Rattle.outside.specs.Told.{SameFiles};
 ghost use Rattle.sym_tables.specs.Table.{Table};
 ghost use Rattle.c_module.specs.Told.{AreQuiet, AreRefused, AreWellFormedTexts};
 ghost use Rattle.c_module.specs.Verdict.{IsProgramCause, IsUnread, IsWant, Passes};
+ghost use Rattle.c_module.specs.WellTyped.{IsWellTypedProgram};
 
 use crate::fault::ProgramFault;
 use crate::lowering::lowered_module;
@@ -13,9 +14,10 @@ use hlo_words::FileName;
 use linker::link_check;
 use outside::Shelf;
 use profile::Profile;
-use program_laws::typed_programs_are_whole;
+use program_laws::{linking_modules_run, typed_programs_are_whole};
 use std::alloc::Global;
 use sym_tables::ProgramSyms;
+use typed_laws::typed_programs_are_well_typed;
 
 /// Checks files in order up to the first that gives no typed module, or a function whose routine passes a limit of the
 /// language, and then links their modules. `syms` has no names at first, and takes in those of the modules; at
@@ -31,6 +33,7 @@ pub fn check_modules<'a, S: Shelf>(
 ) -> Result<(), ProgramFault<'a>>
     requires { syms.old ≡ [] }
     ensures ok { IfOk result (λ _. Passes (S.tells shelf.old) files.now syms.new) }
+    ensures typed { OnOk result (IsWellTypedProgram (S.tells shelf.old) files.now syms.new) }
     ensures err { IfErr result (λ fault. IsProgramCause fault files.now (S.tells shelf.old) (S.faults shelf.old) (S.faults shelf.new) syms.new) }
     // Where the shelf tells the files and no count rose, want of memory alone keeps from the answer that the files ask for.
     ensures complete { (names : Table) → AreWellFormedTexts (S.tells shelf.old) files.now names → refusal names ≡ None
@@ -40,6 +43,8 @@ pub fn check_modules<'a, S: Shelf>(
     ensures same { SameFiles (S.tells shelf.old) (S.tells shelf.new) }
     ensures counts { NoneFalls (S.faults shelf.old) (S.faults shelf.new) }
 {
+    typed_programs_are_well_typed();
+    linking_modules_run();
     check_in_order(alloc, files, shelf, syms)
 }
 

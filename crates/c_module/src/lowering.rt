@@ -46,7 +46,8 @@ fn take_routines<R: RoutineTaker>(
     ensures limits { OnOk result (AllByRecursion KeepsLimits (map function_of functions.now)) }
     ensures ok { OnOk result (R.taken taker.new ≡ R.taken taker.old ++ map (routine_of syms.now (counts_of p.now)) (map function_of functions.now)) }
     ensures still { OnOk result (R.ready taker.new) }
-    ensures err { IfErr result (λ stop. EndsTaking R.taken R.ready R.keeps R.refuses syms.now (counts_of p.now) (map function_of functions.now) taker.old taker.new stop) }
+    ensures err { IfErr result (λ stop. EndsTaking R.taken R.ready R.keeps R.refuses syms.now (counts_of p.now) (map function_of functions.now)
+        taker.old taker.new stop) }
     ensures kept { R.keeps taker.old taker.new }
 {
     counts_are_no_limits();
@@ -81,7 +82,8 @@ pub(crate) fn take_module<S: Shelf, R: RoutineTaker>(
     requires takes { R.ready taker.old }
     ensures ok { OnOk result (AddsLowered number syms.old (counts_of p.now) (S.tells shelf.old file.now) (R.taken taker.old) (R.taken taker.new) syms.new) }
     ensures still { OnOk result (R.ready taker.new) }
-    ensures err { IfErr result (λ stop. IsStop R.taken R.ready R.keeps R.refuses number syms.old (counts_of p.now) stop (S.tells shelf.old file.now) (S.faults shelf.old file.now) (S.faults shelf.new file.now) taker.old taker.new syms.new) }
+    ensures err { IfErr result (λ stop. IsStop R.taken R.ready R.keeps R.refuses number syms.old (counts_of p.now) stop (S.tells shelf.old file.now)
+        (S.faults shelf.old file.now) (S.faults shelf.new file.now) taker.old taker.new syms.new) }
     ensures names { OnOk result (AreNames syms.new) }
     ensures kept { R.keeps taker.old taker.new }
     ensures same { SameFiles (S.tells shelf.old) (S.tells shelf.new) }
@@ -110,7 +112,8 @@ pub fn lowered_module<S: Shelf>(
 ) -> Result<Vec<Routine>, FileFault>
     requires names { AreNames syms.old }
     ensures ok { IfOk result (λ rs. HoldsLowered number syms.old (counts_of p.now) (S.tells shelf.old file.now) rs.items syms.new) }
-    ensures err { IfErr result (λ f. IsCause number syms.old f (S.tells shelf.old file.now) (S.faults shelf.old file.now) (S.faults shelf.new file.now) syms.new) }
+    ensures err { IfErr result (λ f. IsCause number syms.old f (S.tells shelf.old file.now) (S.faults shelf.old file.now)
+        (S.faults shelf.new file.now) syms.new) }
     ensures names { OnOk result (AreNames syms.new) }
     ensures same { SameFiles (S.tells shelf.old) (S.tells shelf.new) }
     ensures counts { NoneFalls (S.faults shelf.old) (S.faults shelf.new) }

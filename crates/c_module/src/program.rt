@@ -10,6 +10,7 @@ ghost use Rattle.c_module.specs.Programs.{IsProgramOf};
 ghost use Rattle.c_module.specs.Taking.{IsTakeCause, IsUnreadFile, IsWantOrRefusal};
 ghost use Rattle.c_module.specs.Told.{AreQuiet, AreRefused, AreWellFormedTexts};
 ghost use Rattle.c_module.specs.Verdict.{IsProgramCause, IsUnread, IsWant};
+ghost use Rattle.c_module.specs.WellTyped.{IsWellTypedProgram};
 
 use crate::assembling::assembled;
 use crate::fault::{ProgramFault, Stop, TakeFault};
@@ -20,9 +21,12 @@ use il_core::IlProgram;
 use linker::link_check;
 use outside::Shelf;
 use profile::Profile;
-use program_laws::{lowered_programs_are_right, typed_modules_fit, typed_programs_are_whole};
+use program_laws::{
+    linking_modules_run, lowered_programs_are_right, typed_modules_fit, typed_programs_are_whole,
+};
 use std::alloc::Global;
 use sym_tables::ProgramSyms;
+use typed_laws::typed_programs_are_well_typed;
 
 /// Hands the routines of the functions of files, with the counts of `p`, to a taker that has none yet, in order, each as
 /// soon as it is made. The faults of the files are those of [`check_modules`], in the same order; a routine is offered once
@@ -44,8 +48,10 @@ pub fn lowered_into<'a, S: Shelf, R: RoutineTaker>(
     requires none { R.taken taker.old ≡ [] }
     requires ready { R.ready taker.old }
     ensures ok { IfOk result (λ _. AreRoutinesOf (counts_of p.now) (S.tells shelf.old) files.now (R.taken taker.new) syms.new) }
+    ensures typed { OnOk result (IsWellTypedProgram (S.tells shelf.old) files.now syms.new) }
     ensures still { OnOk result (R.ready taker.new) }
-    ensures err { IfErr result (λ fault. IsTakeCause R.taken R.ready R.keeps R.refuses fault (counts_of p.now) files.now (S.tells shelf.old) (S.faults shelf.old) (S.faults shelf.new) taker.old taker.new syms.new) }
+    ensures err { IfErr result (λ fault. IsTakeCause R.taken R.ready R.keeps R.refuses fault (counts_of p.now) files.now (S.tells shelf.old)
+        (S.faults shelf.old) (S.faults shelf.new) taker.old taker.new syms.new) }
     ensures kept { R.keeps taker.old taker.new }
     // Where the shelf tells the files and no count rose, want of memory and a refusal alone keep from the answer that the
     // files ask for.
@@ -56,6 +62,8 @@ pub fn lowered_into<'a, S: Shelf, R: RoutineTaker>(
     ensures same { SameFiles (S.tells shelf.old) (S.tells shelf.new) }
     ensures counts { NoneFalls (S.faults shelf.old) (S.faults shelf.new) }
 {
+    typed_programs_are_well_typed();
+    linking_modules_run();
     into_in_order(alloc, files, shelf, p, syms, taker)
 }
 
@@ -74,7 +82,8 @@ fn into_in_order<'a, S: Shelf, R: RoutineTaker>(
     requires ready { R.ready taker.old }
     ensures ok { IfOk result (λ _. AreRoutinesOf (counts_of p.now) (S.tells shelf.old) files.now (R.taken taker.new) syms.new) }
     ensures still { OnOk result (R.ready taker.new) }
-    ensures err { IfErr result (λ fault. IsTakeCause R.taken R.ready R.keeps R.refuses fault (counts_of p.now) files.now (S.tells shelf.old) (S.faults shelf.old) (S.faults shelf.new) taker.old taker.new syms.new) }
+    ensures err { IfErr result (λ fault. IsTakeCause R.taken R.ready R.keeps R.refuses fault (counts_of p.now) files.now (S.tells shelf.old)
+        (S.faults shelf.old) (S.faults shelf.new) taker.old taker.new syms.new) }
     ensures kept { R.keeps taker.old taker.new }
     ensures same { SameFiles (S.tells shelf.old) (S.tells shelf.new) }
     ensures counts { NoneFalls (S.faults shelf.old) (S.faults shelf.new) }
@@ -117,6 +126,7 @@ pub fn lowered_program<'a, S: Shelf>(
 ) -> Result<IlProgram, ProgramFault<'a>>
     requires { syms.old ≡ [] }
     ensures ok { IfOk result (λ program. IsProgramOf (counts_of p.now) (S.tells shelf.old) files.now program syms.new) }
+    ensures typed { OnOk result (IsWellTypedProgram (S.tells shelf.old) files.now syms.new) }
     ensures err { IfErr result (λ fault. IsProgramCause fault files.now (S.tells shelf.old) (S.faults shelf.old) (S.faults shelf.new) syms.new) }
     // Where the shelf tells the files and no count rose, want of memory alone keeps from the answer that the files ask for.
     ensures complete { (names : Table) → AreWellFormedTexts (S.tells shelf.old) files.now names → refusal names ≡ None
@@ -126,6 +136,8 @@ pub fn lowered_program<'a, S: Shelf>(
     ensures same { SameFiles (S.tells shelf.old) (S.tells shelf.new) }
     ensures counts { NoneFalls (S.faults shelf.old) (S.faults shelf.new) }
 {
+    typed_programs_are_well_typed();
+    linking_modules_run();
     program_in_order(alloc, files, shelf, p, syms)
 }
 

@@ -40,13 +40,15 @@ pub tree-Unary : (t : Ty) (o : UnaryOp) (e : TypedExpr) → expr_of (forms.Unary
 tree-Unary t o e = ap expr_of (sym (forms.rolls-Unary t o e)) ∙ fold-roll-TypedExpr tree.Place tree.Expr place_layer expr_layer (TypedExpr-F.Unary t o e)
 
 pub tree-Binary : (t : Ty) (o : BinaryOp) (a b : TypedExpr) → expr_of (forms.Binary t o a b) ≡ tree.Binary t o (expr_of a) (expr_of b)
-tree-Binary t o a b = ap expr_of (sym (forms.rolls-Binary t o a b)) ∙ fold-roll-TypedExpr tree.Place tree.Expr place_layer expr_layer (TypedExpr-F.Binary t o a b)
+tree-Binary t o a b = ap expr_of (sym (forms.rolls-Binary t o a b)) ∙ fold-roll-TypedExpr tree.Place tree.Expr place_layer expr_layer
+    (TypedExpr-F.Binary t o a b)
 
 pub tree-Logical : (o : LogicalOp) (a b : TypedExpr) → expr_of (forms.Logical o a b) ≡ tree.Logical o (expr_of a) (expr_of b)
 tree-Logical o a b = ap expr_of (sym (forms.rolls-Logical o a b)) ∙ fold-roll-TypedExpr tree.Place tree.Expr place_layer expr_layer (TypedExpr-F.Logical o a b)
 
 pub tree-Conditional : (t : Option Ty) (c a b : TypedExpr) → expr_of (forms.Conditional t c a b) ≡ tree.Conditional t (expr_of c) (expr_of a) (expr_of b)
-tree-Conditional t c a b = ap expr_of (sym (forms.rolls-Conditional t c a b)) ∙ fold-roll-TypedExpr tree.Place tree.Expr place_layer expr_layer (TypedExpr-F.Conditional t c a b)
+tree-Conditional t c a b = ap expr_of (sym (forms.rolls-Conditional t c a b)) ∙ fold-roll-TypedExpr tree.Place tree.Expr place_layer expr_layer
+    (TypedExpr-F.Conditional t c a b)
 
 pub tree-Comma : (t : Option Ty) (a b : TypedExpr) → expr_of (forms.Comma t a b) ≡ tree.Comma t (expr_of a) (expr_of b)
 tree-Comma t a b = ap expr_of (sym (forms.rolls-Comma t a b)) ∙ fold-roll-TypedExpr tree.Place tree.Expr place_layer expr_layer (TypedExpr-F.Comma t a b)
@@ -54,8 +56,10 @@ tree-Comma t a b = ap expr_of (sym (forms.rolls-Comma t a b)) ∙ fold-roll-Type
 pub tree-Assign : (t : Ty) (p : Place) (e : TypedExpr) → expr_of (forms.Assign t p e) ≡ tree.Assign t (place_of p) (expr_of e)
 tree-Assign t p e = ap expr_of (sym (forms.rolls-Assign t p e)) ∙ fold-roll-TypedExpr tree.Place tree.Expr place_layer expr_layer (TypedExpr-F.Assign t p e)
 
-pub tree-Compound : (t : Ty) (o : BinaryOp) (u : Ty) (p : Place) (e : TypedExpr) → expr_of (forms.Compound t o u p e) ≡ tree.Compound t o u (place_of p) (expr_of e)
-tree-Compound t o u p e = ap expr_of (sym (forms.rolls-Compound t o u p e)) ∙ fold-roll-TypedExpr tree.Place tree.Expr place_layer expr_layer (TypedExpr-F.Compound t o u p e)
+pub tree-Compound : (t : Ty) (o : BinaryOp) (u : Ty) (p : Place) (e : TypedExpr)
+    → expr_of (forms.Compound t o u p e) ≡ tree.Compound t o u (place_of p) (expr_of e)
+tree-Compound t o u p e = ap expr_of (sym (forms.rolls-Compound t o u p e)) ∙ fold-roll-TypedExpr tree.Place tree.Expr place_layer expr_layer
+    (TypedExpr-F.Compound t o u p e)
 
 pub tree-Prefix : (t : Ty) (d : Step) (p : Place) → expr_of (forms.Prefix t d p) ≡ tree.Prefix t d (place_of p)
 tree-Prefix t d p = ap expr_of (sym (forms.rolls-Prefix t d p)) ∙ fold-roll-TypedExpr tree.Place tree.Expr place_layer expr_layer (TypedExpr-F.Prefix t d p)

@@ -17,21 +17,27 @@ next_item xs i x h e =
     d ∙ ap (λ y. y ∷ drop (i + 1) xs) (sym e)
 
 -- what was found so far, with an item more
-pub kept : (number : ℕ) (xs : List Item) (i : ℕ) (x : Item) (old new : List TypedFunction) (h h' : Here) (all : Reply (List TypedFunction)) → i < length xs → x ≡ get_or xs i x
+pub kept : (number : ℕ) (xs : List Item) (i : ℕ) (x : Item) (old new : List TypedFunction) (h h' : Here) (all : Reply (List TypedFunction)) → i < length xs
+    → x ≡ get_or xs i x
     → before old (all_items number (x ∷ drop (i + 1) xs) h) ≡ before new (all_items number (drop (i + 1) xs) h')
     → before old (all_items number (drop i xs) h) ≡ all
     → before new (all_items number (drop (i + 1) xs) h') ≡ all
 kept number xs i x old new h h' all less is step e = sym step ∙ ap (λ l. before old (all_items number l h)) (sym (next_item xs i x less is)) ∙ e
 
-pub include_step : (number : ℕ) (old : List TypedFunction) (x : Item) (rest : List Item) (line : ℕ) (header : Header) (h h' : Here) → x ≡ items.Include line header → h' ≡ include header h
+pub include_step : (number : ℕ) (old : List TypedFunction) (x : Item) (rest : List Item) (line : ℕ) (header : Header) (h h' : Here)
+    → x ≡ items.Include line header → h' ≡ include header h
     → before old (all_items number (x ∷ rest) h) ≡ before old (all_items number rest h')
-include_step number old x rest line header h h' is e = ap (λ y. before old (all_items number (y ∷ rest) h)) is ∙ ap (λ k. before old (all_items number rest k)) (sym e)
+include_step number old x rest line header h h' is e = ap (λ y. before old (all_items number (y ∷ rest) h)) is ∙ ap (λ k. before old (all_items number rest k))
+    (sym e)
 
-pub declaration_step : (number : ℕ) (old : List TypedFunction) (x : Item) (rest : List Item) (d : Declaration) (h h' : Here) → x ≡ items.Declaration d → file_declaration number d h ≡ Gives tt h'
+pub declaration_step : (number : ℕ) (old : List TypedFunction) (x : Item) (rest : List Item) (d : Declaration) (h h' : Here) → x ≡ items.Declaration d
+    → file_declaration number d h ≡ Gives tt h'
     → before old (all_items number (x ∷ rest) h) ≡ before old (all_items number rest h')
-declaration_step number old x rest d h h' is e = ap (λ y. before old (all_items number (y ∷ rest) h)) is ∙ ap (λ r. before old (followed r (λ u. all_items number rest))) e
+declaration_step number old x rest d h h' is e = ap (λ y. before old (all_items number (y ∷ rest) h)) is ∙ ap
+    (λ r. before old (followed r (λ u. all_items number rest))) e
 
-pub function_step : (number : ℕ) (old : List TypedFunction) (x : Item) (rest : List Item) (f : Function) (t : TypedFunction) (h h' : Here) → x ≡ items.Function f → function number f h ≡ Gives t h'
+pub function_step : (number : ℕ) (old : List TypedFunction) (x : Item) (rest : List Item) (f : Function) (t : TypedFunction) (h h' : Here)
+    → x ≡ items.Function f → function number f h ≡ Gives t h'
     → before old (all_items number (x ∷ rest) h) ≡ before (old ++ t ∷ []) (all_items number rest h')
 function_step number old x rest f t h h' is e =
     ap (λ y. before old (all_items number (y ∷ rest) h)) is

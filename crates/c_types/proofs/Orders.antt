@@ -17,15 +17,19 @@ one_more xs x (Gives ys h) = ap (λ l. Gives l h) (append_assoc xs (x ∷ []) ys
 one_more xs x (Breaks line kind) = refl
 
 -- a rule that gave something, with those behind it
-pub given_first : {A : Type 0} (xs : List A) (rule : Rule A) (rest : List (Rule A)) (x : A) (h h' : Here) → rule h ≡ Gives x h' → before (xs ++ x ∷ []) (in_order rest h') ≡ before xs (in_order (rule ∷ rest) h)
-given_first xs rule rest x h h' e = one_more xs x (in_order rest h') ∙ ap (λ r. before xs (followed r (λ y. λ h1. followed (in_order rest h1) (λ ys. give (y ∷ ys))))) (sym e)
+pub given_first : {A : Type 0} (xs : List A) (rule : Rule A) (rest : List (Rule A)) (x : A) (h h' : Here) → rule h ≡ Gives x h'
+    → before (xs ++ x ∷ []) (in_order rest h') ≡ before xs (in_order (rule ∷ rest) h)
+given_first xs rule rest x h h' e = one_more xs x (in_order rest h') ∙ ap
+    (λ r. before xs (followed r (λ y. λ h1. followed (in_order rest h1) (λ ys. give (y ∷ ys))))) (sym e)
 
 -- a rule that is broken
-pub broken_first : {A : Type 0} (xs : List A) (rule : Rule A) (rest : List (Rule A)) (line : ℕ) (kind : _) (h : Here) → rule h ≡ Breaks line kind → before xs (in_order (rule ∷ rest) h) ≡ Breaks line kind
+pub broken_first : {A : Type 0} (xs : List A) (rule : Rule A) (rest : List (Rule A)) (line : ℕ) (kind : _) (h : Here) → rule h ≡ Breaks line kind
+    → before xs (in_order (rule ∷ rest) h) ≡ Breaks line kind
 broken_first xs rule rest line kind h e = ap (λ r. before xs (followed r (λ y. λ h1. followed (in_order rest h1) (λ ys. give (y ∷ ys))))) e
 
 -- a rule behind one that gave something
-pub follows_after : {X A B : Type 0} (view : X → B) (rule : Rule A) (next : A → Rule B) (a : A) (h h' new : Here) (res : Result X TypeFault) → rule h ≡ Gives a h' → Follows view (next a) h' res new → Follows view (rule >>= next) h res new
+pub follows_after : {X A B : Type 0} (view : X → B) (rule : Rule A) (next : A → Rule B) (a : A) (h h' new : Here) (res : Result X TypeFault)
+    → rule h ≡ Gives a h' → Follows view (next a) h' res new → Follows view (rule >>= next) h res new
 follows_after view rule next a h h' new (Ok x) e f = ap (λ r. followed r next) e ∙ f
 follows_after view rule next a h h' new (Err (faults.At line kind)) e f = ap (λ r. followed r next) e ∙ f
 follows_after view rule next a h h' new (Err faults.Memory) e f = tt
@@ -35,6 +39,7 @@ pub tells_before : {A B : Type 0} (rule : Rule A) (next : A → Rule B) (h : Her
 tells_before rule next h (faults.At line kind) e = ap (λ r. followed r next) e
 tells_before rule next h faults.Memory e = tt
 
-pub tells_after : {A B : Type 0} (rule : Rule A) (next : A → Rule B) (a : A) (h h' : Here) (fault : TypeFault) → rule h ≡ Gives a h' → Tells (next a h') fault → Tells ((rule >>= next) h) fault
+pub tells_after : {A B : Type 0} (rule : Rule A) (next : A → Rule B) (a : A) (h h' : Here) (fault : TypeFault) → rule h ≡ Gives a h' → Tells (next a h') fault
+    → Tells ((rule >>= next) h) fault
 tells_after rule next a h h' (faults.At line kind) e f = ap (λ r. followed r next) e ∙ f
 tells_after rule next a h h' faults.Memory e f = tt

@@ -26,7 +26,8 @@ joined : (name : List ℕ) (n : ℕ) → list_all is_name_byte name ≡ true →
 joined name n h small = list_all-append is_name_byte name (46 ∷ decimal n) ∙ ap (λ b. b && list_all is_name_byte (decimal n)) h ∙ decimal_named n small
 
 -- a name, a dot and the digits of a number, put together one after the other
-pub numbered : (name first dotted digits bytes : List ℕ) (n : ℕ) → IsName name → n < 2 ^ 64 → first ≡ name → dotted ≡ first ++ 46 ∷ [] → digits ≡ decimal n → bytes ≡ dotted ++ digits → IsName bytes
+pub numbered : (name first dotted digits bytes : List ℕ) (n : ℕ) → IsName name → n < 2 ^ 64 → first ≡ name → dotted ≡ first ++ 46 ∷ [] → digits ≡ decimal n
+    → bytes ≡ dotted ++ digits → IsName bytes
 numbered name first dotted digits bytes n h small is_first is_dotted is_digits is =
     let e : bytes ≡ name ++ 46 ∷ decimal n = rw (is, is_dotted, is_first, is_digits) (append_assoc name (46 ∷ []) (decimal n)) in
     let long : length bytes ≡ length name + length (46 ∷ decimal n) = ap length e ∙ length-append name (46 ∷ decimal n) in

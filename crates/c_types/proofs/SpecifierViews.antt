@@ -29,21 +29,31 @@ use Rattle.c_types.specs.Rules.{Here, Gives, Rule, followed, give, ◌>>=◌, in
 use Rattle.c_types.specs.Specifiers.{meaning}
 
 pub specifying_is : (s : Specifiers) → rules.specifying s ≡ (λ site. in_order (map rules.reading s.items) >>= λ ps. rules.specified_or s.line (meaning site ps))
-specifying_is s = fold_out-Specifiers rules.Typing (Rule Part) (ℤ → Rule ℤ) (Site → Rule Specified) rules.expression rules.specifier rules.enumeration_constant rules.specifiers s
+specifying_is s = fold_out-Specifiers rules.Typing (Rule Part) (ℤ → Rule ℤ) (Site → Rule Specified) rules.expression rules.specifier rules.enumeration_constant
+    rules.specifiers s
 
-constant_is : (x : Identifier) (o : Option Expr) → rules.enumeration_constant (map-Enumerator Expr Specifier Enumerator Specifiers rules.Typing (Rule Part) (ℤ → Rule ℤ) (Site → Rule Specified) rules.typing rules.reading rules.enumerating rules.specifying (record { name = x; value = o })) ≡ (λ next. rules.given_value (option_map rules.typing o) next >>= λ v. enumerator x v)
+constant_is : (x : Identifier) (o : Option Expr)
+    → rules.enumeration_constant (map-Enumerator Expr Specifier Enumerator Specifiers rules.Typing (Rule Part) (ℤ → Rule ℤ) (Site → Rule Specified) rules.typing
+    rules.reading rules.enumerating rules.specifying (record { name = x; value = o })) ≡
+    (λ next. rules.given_value (option_map rules.typing o) next >>= λ v. enumerator x v)
 constant_is x None = refl
 constant_is x (Some e) = refl
 
 pub enumerating_is : (e : Enumerator) → rules.enumerating e ≡ (λ next. rules.given_value (option_map rules.typing e.value) next >>= λ v. enumerator e.name v)
-enumerating_is e = fold_out-Enumerator rules.Typing (Rule Part) (ℤ → Rule ℤ) (Site → Rule Specified) rules.expression rules.specifier rules.enumeration_constant rules.specifiers e ∙ constant_is e.name e.value
+enumerating_is e = fold_out-Enumerator rules.Typing (Rule Part) (ℤ → Rule ℤ) (Site → Rule Specified) rules.expression rules.specifier rules.enumeration_constant
+    rules.specifiers e ∙ constant_is e.name e.value
 
-pub reading_enum : (l : ℕ) (tag : Option Identifier) (es : List Enumerator) → rules.reading (forms.Enum l tag es) ≡ (rules.declare_optional_tag tag >>= λ u. rules.all_enumerators (pos 0) (map rules.enumerating es))
-reading_enum l tag es = ap rules.reading (sym (forms.rolls-Enum l tag es)) ∙ fold-roll-Specifier rules.Typing (Rule Part) (ℤ → Rule ℤ) (Site → Rule Specified) rules.expression rules.specifier rules.enumeration_constant rules.specifiers (Specifier-F.Enum l tag es)
+pub reading_enum : (l : ℕ) (tag : Option Identifier) (es : List Enumerator)
+    → rules.reading (forms.Enum l tag es) ≡ (rules.declare_optional_tag tag >>= λ u. rules.all_enumerators (pos 0) (map rules.enumerating es))
+reading_enum l tag es = ap rules.reading (sym (forms.rolls-Enum l tag es)) ∙ fold-roll-Specifier rules.Typing (Rule Part) (ℤ → Rule ℤ) (Site → Rule Specified)
+    rules.expression rules.specifier rules.enumeration_constant rules.specifiers (Specifier-F.Enum l tag es)
 
 -- a constant with a value of its own
-pub given_constant : (x : Identifier) (t : rules.Typing) (v : ConstantValue) (w : ℕ) (h h' new : Here) (res : Result ℤ TypeFault) → rules.constant_valued t h ≡ Gives v h' → word_of_value v.value h' ≡ Gives w h' → Follows (λ n. n) (enumerator x (value_in v.ty w)) h' res new → Follows (λ n. n) (rules.given_number t >>= λ n. enumerator x n) h res new
-given_constant x t v w h h' new res e g f = follows_after (λ n. n) (rules.given_number t) (λ n. enumerator x n) (value_in v.ty w) h h' new res (ap (λ r. followed r (λ c. word_of_value c.value >>= λ y. give (value_in c.ty y))) e ∙ ap (λ r. followed r (λ y. give (value_in v.ty y))) g) f
+pub given_constant : (x : Identifier) (t : rules.Typing) (v : ConstantValue) (w : ℕ) (h h' new : Here) (res : Result ℤ TypeFault)
+    → rules.constant_valued t h ≡ Gives v h' → word_of_value v.value h' ≡ Gives w h' → Follows (λ n. n) (enumerator x (value_in v.ty w)) h' res new
+    → Follows (λ n. n) (rules.given_number t >>= λ n. enumerator x n) h res new
+given_constant x t v w h h' new res e g f = follows_after (λ n. n) (rules.given_number t) (λ n. enumerator x n) (value_in v.ty w) h h' new res
+    (ap (λ r. followed r (λ c. word_of_value c.value >>= λ y. give (value_in c.ty y))) e ∙ ap (λ r. followed r (λ y. give (value_in v.ty y))) g) f
 
 -- a word's value in a type fits a number of 64 bits
 fits_either : (b : Bool) (w : ℕ) → Fits w32 w → SFits w64 (if b then signed w else pos w)

@@ -36,7 +36,8 @@ enumeration_and_word : type_named (Listed ∷ One words.Int ∷ []) ≡ None
 enumeration_and_word = refl
 
 -- `static const unsigned` at file scope, and in a block
-at_file_scope : meaning sites.File (One words.Static ∷ One words.Const ∷ One words.Unsigned ∷ []) ≡ Some (record { storage = Some storages.Static; fixed = true; ty = Some types.UInt; lists = false })
+at_file_scope : meaning sites.File (One words.Static ∷ One words.Const ∷ One words.Unsigned ∷ []) ≡ Some
+    (record { storage = Some storages.Static; fixed = true; ty = Some types.UInt; lists = false })
 at_file_scope = refl
 
 in_a_block : meaning sites.Block (One words.Static ∷ One words.Unsigned ∷ []) ≡ None

@@ -18,7 +18,9 @@ use Rattle.c_types.proofs.Orders.{before}
 
 -- a call, by the rules of its arguments
 pub typing_call : (f : Identifier) (es : List Expr) → (rules.typing (forms.Call f es)).typed ≡ (find f >>= λ b. rules.call f.line b (map rules.typing es))
-typing_call f es = ap (λ e. (rules.typing e).typed) (sym (forms.rolls-Call f es)) ∙ ap (λ t. t.typed) (fold-roll-Expr rules.Typing (Rule Part) (ℤ → Rule ℤ) (Site → Rule Specified) rules.expression rules.specifier rules.enumeration_constant rules.specifiers (Expr-F.Call f es))
+typing_call f es = ap (λ e. (rules.typing e).typed) (sym (forms.rolls-Call f es)) ∙ ap (λ t. t.typed)
+    (fold-roll-Expr rules.Typing (Rule Part) (ℤ → Rule ℤ) (Site → Rule Specified) rules.expression rules.specifier rules.enumeration_constant rules.specifiers
+    (Expr-F.Call f es))
 
 -- nothing behind the last type
 pub no_types_left : (xs : List TypedExpr) (ps : List Ty) (es : List rules.Typing) (h : Here) → length ps ≡ 0 → before xs (rules.arguments ps es h) ≡ Gives xs h
@@ -29,5 +31,6 @@ no_arguments xs [] h = ap (λ l. Gives l h) (append-nil xs)
 no_arguments xs (p ∷ ps) h = ap (λ l. Gives l h) (append-nil xs)
 
 -- nothing behind the last argument
-pub no_arguments_left : (xs : List TypedExpr) (ps : List Ty) (es : List Expr) (i : ℕ) (h : Here) → length es ≤ i → before xs (rules.arguments ps (map rules.typing (drop i es)) h) ≡ Gives xs h
+pub no_arguments_left : (xs : List TypedExpr) (ps : List Ty) (es : List Expr) (i : ℕ) (h : Here) → length es ≤ i
+    → before xs (rules.arguments ps (map rules.typing (drop i es)) h) ≡ Gives xs h
 no_arguments_left xs ps es i h le = at_drop_all (λ r. before xs (rules.arguments ps (map rules.typing r) h)) es i le ∙ no_arguments xs ps h

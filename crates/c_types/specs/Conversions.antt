@@ -50,15 +50,6 @@ is_shift op.ShiftLeft = true
 is_shift op.ShiftRight = true
 is_shift _ = false
 
-abbrev pub is_comparison : BinaryOp → Bool
-is_comparison op.Equal = true
-is_comparison op.NotEqual = true
-is_comparison op.Less = true
-is_comparison op.Greater = true
-is_comparison op.LessEqual = true
-is_comparison op.GreaterEqual = true
-is_comparison _ = false
-
 -- the usual type of two operands, after their promotions
 abbrev pub common : Ty → Ty → Ty
 common a b = usual (promote a) (promote b)
@@ -70,10 +61,6 @@ left_type o a b = if is_shift o then promote a else common a b
 -- the type to which the right operand is converted
 abbrev pub right_type : BinaryOp → Ty → Ty → Ty
 right_type o a b = if is_shift o then promote b else common a b
-
--- the type of the result
-abbrev pub result_type : BinaryOp → Ty → Ty → Ty
-result_type o a b = if is_comparison o then Int else left_type o a b
 
 -- the type of `+e`, `-e`, `~e` and `!e`
 abbrev pub unary_type : UnaryOp → Ty → Ty

@@ -1,7 +1,8 @@
 -- The rules of declarations at file scope: linkage, the names of the library, arrays, initialisers (C90, 6.1.2.2, 6.5,
 -- 6.5.7, 6.7.2 and 7.1.3). At one declarator they come in this order: its type and length; the library's names; a
 -- declaration that goes with the earlier ones in this module; one linkage; what other modules say; the initialiser.
-use Rattle.std.specs.Prelude.{ℕ, ◌+◌, Bool, true, false, ◌&&◌, ◌||◌, nat_lt, not, ◌-◌, List, [], ◌∷◌, ◌++◌, Option, Some, None, is_none, length, codes, if◌then◌else◌}
+use Rattle.std.specs.Prelude.{ℕ, ◌+◌, Bool, true, false, ◌&&◌, ◌||◌, nat_lt, not, ◌-◌, List, [], ◌∷◌, ◌++◌, Option, Some, None, is_none, length, codes}
+use Rattle.std.specs.Prelude.{if◌then◌else◌}
 use Rattle.std.specs.Option.{unwrap_or}
 use Rattle.std.specs.Fmt.{decimal}
 use Rattle.hlo_num.specs.declared.word.Ty.{Ty}
@@ -280,7 +281,8 @@ begun x pid ty extent storage (Some i) = do
   words ← initial_words x.line ty extent i
   change (λ h. record h { syms = initialised h.syms pid words })
 begun x pid ty extent storage None =
-    if is_array extent && not (is_extern storage) then change (λ h. record h { awaited = h.awaited ++ record { name = x.name; line = x.line } ∷ [] }) else give tt
+    if is_array extent && not (is_extern storage) then change (λ h. record h { awaited = h.awaited ++ record { name = x.name; line = x.line } ∷ [] }) else give
+    tt
 
 -- an object, as the declarator says, is declared as what the program and the module know of it
 abbrev pub bind_object : Specified → Declarator → Ty → Extent → Linked → Rule (Unit {0})

@@ -14,12 +14,14 @@ use Rattle.c_tree.specs.declared.expression.Expr.TheOpen.{Expr-F, Specifier-F, S
 use Rattle.c_tree.specs.declared.expression.BinaryOp.{BinaryOp as Written}
 use Rattle.c_tree.specs.declared.expression.UnaryOp.{UnaryOp}
 use Rattle.c_tree.specs.declared.expression.Step.{Step}
+use Rattle.c_tree.specs.Lines.{layer_line}
 use Rattle.c_types.specs.declared.binding.Binding.{Binding}
 use Rattle.c_types.specs.declared.binding.Binding.TheVariants as bindings
 use Rattle.c_types.specs.declared.binding.Library.TheVariants as library
 use Rattle.c_typed.specs.declared.expression.TypedExpr.{TypedExpr, roll-TypedExpr}
 use Rattle.c_typed.specs.declared.expression.Place.TheOpen.{TypedExpr-F}
 use Rattle.c_typed.specs.declared.expression.BinaryOp.{BinaryOp}
+use Rattle.c_typed.specs.Types.{result_type}
 use Rattle.c_types.specs.declared.specifiers.Site.{Site}
 use Rattle.c_types.specs.declared.specifiers.Site.TheVariants as sites
 use Rattle.c_types.specs.declared.specifiers.Specified.{Specified}
@@ -33,7 +35,7 @@ use Rattle.c_types.specs.declared.conversion.Target.{Target}
 use Rattle.c_types.specs.declared.conversion.Operator.{Operator}
 use Rattle.c_types.specs.declared.conversion.Operator.TheVariants.{Skipping, Working}
 use Rattle.c_types.specs.Constants.{word_of_value, binary_value, logical_value, chosen_value, cast_value, unary_value, constant_name, constant_element}
-use Rattle.c_types.specs.Conversions.{converted, sorted, left_type, right_type, result_type, unary_type, operand_type, wanted, arms_type, arm}
+use Rattle.c_types.specs.Conversions.{converted, sorted, left_type, right_type, unary_type, operand_type, wanted, arms_type, arm}
 use Rattle.c_types.specs.Enumerations.{value_in, enumerator}
 use Rattle.c_types.specs.Rules.{Rule, ◌>>=◌, ◌>>◌, give, broken, unless, in_order}
 use Rattle.c_types.specs.Names.{find, use_tag, declare_tag}
@@ -101,7 +103,8 @@ abbrev pub unary_node : UnaryOp → Valued → Typed
 unary_node o v = node (Some (unary_type o v.ty)) (roll-TypedExpr (TypedExpr-F.Unary (unary_type o v.ty) o (converted (operand_type o v.ty) v)))
 
 abbrev pub working_node : BinaryOp → Valued → Valued → Typed
-working_node o a b = node (Some (result_type o a.ty b.ty)) (roll-TypedExpr (TypedExpr-F.Binary (left_type o a.ty b.ty) o (converted (left_type o a.ty b.ty) a) (converted (right_type o a.ty b.ty) b)))
+working_node o a b = node (Some (result_type o (left_type o a.ty b.ty)))
+    (roll-TypedExpr (TypedExpr-F.Binary (left_type o a.ty b.ty) o (converted (left_type o a.ty b.ty) a) (converted (right_type o a.ty b.ty) b)))
 
 abbrev pub both_arms : Option Ty → Typed → Typed → Arms
 both_arms ty a b = record { ty = ty; yes = arm ty a.ty a.expr; no = arm ty b.ty b.expr }
@@ -190,7 +193,7 @@ binary (Working o) a b = working_node o a b
 
 abbrev pub constant_binary : ℕ → Operator → ConstantValue → ConstantValue → Constant
 constant_binary line (Skipping o) a b = record { ty = Some Int; value = logical_value o a.value b.value }
-constant_binary line (Working o) a b = record { ty = Some (result_type o a.ty b.ty); value = binary_value line o a.ty a.value b.ty b.value }
+constant_binary line (Working o) a b = record { ty = Some (result_type o (left_type o a.ty b.ty)); value = binary_value line o a.ty a.value b.ty b.value }
 
 -- an assignment; no operator that may skip its operand assigns, and a tree with one is refused as no target is
 abbrev pub assigned : ℕ → Operator → Target → Valued → Rule Typed
@@ -323,23 +326,8 @@ target_layer (Expr-F.Index a i) line = element_of true a i
 target_layer (Expr-F.Paren l e) line = e.target line
 target_layer e line = no_target (typed_layer e) line
 
-abbrev pub line_of_layer : {B C D : Type 0} → Expr-F Typing B C D → ℕ
-line_of_layer (Expr-F.Name x) = x.line
-line_of_layer (Expr-F.Index a i) = a.line
-line_of_layer (Expr-F.Call f es) = f.line
-line_of_layer (Expr-F.Constant l v t) = l
-line_of_layer (Expr-F.Paren l e) = l
-line_of_layer (Expr-F.Postfix l s e) = l
-line_of_layer (Expr-F.Prefix l s e) = l
-line_of_layer (Expr-F.Unary l o e) = l
-line_of_layer (Expr-F.Cast l s e) = l
-line_of_layer (Expr-F.Binary l o a b) = l
-line_of_layer (Expr-F.Conditional l c a b) = l
-line_of_layer (Expr-F.Assign l o a b) = l
-line_of_layer (Expr-F.Comma l a b) = l
-
 abbrev pub expression : Expr-F Typing (Rule Part) (ℤ → Rule ℤ) (Site → Rule Specified) → Typing
-expression e = record { line = line_of_layer e; constant = constant_layer e; typed = typed_layer e; target = target_layer e }
+expression e = record { line = layer_line e; constant = constant_layer e; typed = typed_layer e; target = target_layer e }
 
 -- one specifier. An enumeration declares its tag, and then its constants in order
 abbrev pub all_enumerators : ℤ → List (ℤ → Rule ℤ) → Rule Part

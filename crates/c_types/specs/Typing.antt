@@ -40,7 +40,8 @@ abbrev pub bind_new : List ℕ → Binding → Here → Here
 bind_new name binding h = if is_none (bound_here name h) then bind name binding h else h
 
 abbrev pub include : Header → Here → Here
-include headers.Stdio h = bind_new (codes "EOF") (bindings.Constant (record { 0 = 4294967295 })) (bind_new (codes "putchar") (bindings.Library library.PutChar) (bind_new (codes "getchar") (bindings.Library library.GetChar) h))
+include headers.Stdio h = bind_new (codes "EOF") (bindings.Constant (record { 0 = 4294967295 }))
+    (bind_new (codes "putchar") (bindings.Library library.PutChar) (bind_new (codes "getchar") (bindings.Library library.GetChar) h))
 include headers.Stdlib h = bind_new (codes "exit") (bindings.Library library.Exit) h
 
 -- each parameter of a definition has a name
@@ -124,7 +125,16 @@ module_rules number m = do
 
 -- where a module begins: no name is in scope, and the program has these names
 abbrev pub start : Table → Here
-start syms = record { names = record { declared = []; depth = 0 }; tags = record { declared = []; depth = 0 }; syms = syms; locals = []; cases = []; default = false; awaited = [] }
+start syms = record {
+  names = record { declared = []; depth = 0 };
+  tags = record { declared = []; depth = 0 };
+  syms = syms;
+  locals = [];
+  cases = [];
+  default =
+      false;
+  awaited = [];
+}
 
 -- what the check of a module answers: the typed module, and the program's names with those of the module; or the first
 -- rule that is broken, or want of memory

@@ -24,7 +24,8 @@ abbrev pub none : Counts
 none = record { void = 0; char = 0; short = 0; int = 0; long = 0; signed = 0; unsigned = 0; enums = 0 }
 
 abbrev pub same : Counts → Counts → Bool
-same a b = (a.void == b.void) && (a.char == b.char) && (a.short == b.short) && (a.int == b.int) && (a.long == b.long) && (a.signed == b.signed) && (a.unsigned == b.unsigned) && (a.enums == b.enums)
+same a b = (a.void == b.void) && (a.char == b.char) && (a.short == b.short) && (a.int == b.int) && (a.long == b.long) && (a.signed == b.signed) &&
+    (a.unsigned == b.unsigned) && (a.enums == b.enums)
 
 -- these words stand, and no others but `int` and `signed`, once each, where they may stand besides
 abbrev pub is_set : Counts → Bool → Bool → Counts → Bool

@@ -72,7 +72,15 @@ impl Model for Checker {
 
     ghost Value = { Here };
 
-    ghost view = { λ c. record { names = c.names; tags = c.tags; syms = c.syms; locals = c.locals.items; cases = c.cases.keys; default = c.default; awaited = c.awaited.items } };
+    ghost view = { λ c. record {
+      names = c.names;
+      tags = c.tags;
+      syms = c.syms;
+      locals = c.locals.items;
+      cases = c.cases.keys;
+      default = c.default;
+      awaited = c.awaited.items;
+    } };
 }
 
 /// The fault of a rule that is broken at a line.

@@ -1,6 +1,6 @@
 //! The types of expressions, and conversions (ISO C90, 6.2.1 and 6.3).
 ghost use Rattle.std.specs.Prelude.{◌≡◌, IfOk};
-ghost use Rattle.c_types.specs.Conversions.{arm, common, converted, is_comparison, is_shift, left_type, operand_type, sorted, result_type, right_type, unary_type};
+ghost use Rattle.c_types.specs.Conversions.{arm, common, converted, is_shift, left_type, operand_type, sorted, right_type, unary_type};
 
 use c_tree::UnaryOp;
 use c_typed::{BinaryOp, LogicalOp, Place, TypedExpr};
@@ -68,20 +68,6 @@ fn is_shift(op: BinaryOp) -> bool
     matches!(op, BinaryOp::ShiftLeft | BinaryOp::ShiftRight)
 }
 
-fn is_comparison(op: BinaryOp) -> bool
-    ensures { result ≡ is_comparison op }
-{
-    matches!(
-        op,
-        BinaryOp::Equal
-            | BinaryOp::NotEqual
-            | BinaryOp::Less
-            | BinaryOp::Greater
-            | BinaryOp::LessEqual
-            | BinaryOp::GreaterEqual
-    )
-}
-
 /// The usual type of two operands, after their promotions.
 pub(crate) fn common(a: Ty, b: Ty) -> Ty
     ensures { result ≡ common a b }
@@ -108,17 +94,6 @@ pub(crate) fn right_type(op: BinaryOp, a: Ty, b: Ty) -> Ty
         promote(b)
     } else {
         common(a, b)
-    }
-}
-
-/// The type of the result.
-pub(crate) fn result_type(op: BinaryOp, a: Ty, b: Ty) -> Ty
-    ensures { result ≡ result_type op a b }
-{
-    if is_comparison(op) {
-        Ty::Int
-    } else {
-        left_type(op, a, b)
     }
 }
 

@@ -7,8 +7,8 @@ ghost use Rattle.c_types.specs.Typing as typing;
 
 use crate::binding::{Binding, Library};
 use crate::checker::{Aside, Checker, broken};
+use crate::conditions::is_library;
 use crate::fault::{TypeFault, TypeKind};
-use crate::plain::is_library;
 use crate::specifiers::{Site, Specified};
 use crate::statements::Around;
 use c_tree::{Block, Function, Header, Identifier};

@@ -7,10 +7,10 @@ ghost use Rattle.c_types.specs.Names.{scoped};
 
 use crate::binding::{Binding, Extent};
 use crate::checker::{Checker, broken};
+use crate::conditions::is_library;
 use crate::fault::{TypeFault, TypeKind};
 use crate::lengths::{declares, initialiser_line, is_length};
 use crate::linkage::{Linked, is_extern, object_entity};
-use crate::plain::is_library;
 use crate::specifiers::{Site, Specified, Storage};
 use c_tree::{Declaration, Declarator, Expr, Identifier, Initialiser, Parameter, Shape};
 use hlo_num::{Seq, Ty, Word, convert};
@@ -260,7 +260,8 @@ impl Checker {
         ty: Ty,
         said: Extent,
     ) -> Result<Linked, TypeFault>
-        ensures { Follows (λ l. l) (rules.link number d.now.name s.storage false (rules.object_standing s.storage d.now.initialiser) (rules.object_entity ty s.fixed said)) self.old result self.new }
+        ensures { Follows (λ l. l) (rules.link number d.now.name s.storage false (rules.object_standing s.storage d.now.initialiser)
+            (rules.object_entity ty s.fixed said)) self.old result self.new }
     {
         let standing = object_standing(s.storage, &d.initialiser);
         let entity = object_entity(ty, s.fixed, said);

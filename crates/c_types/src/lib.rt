@@ -4,6 +4,7 @@
 
 mod binding;
 mod checker;
+mod conditions;
 mod constant;
 mod conversion;
 mod definition;
@@ -14,7 +15,6 @@ mod linkage;
 mod locals;
 mod module;
 mod nodes;
-mod plain;
 mod scopes;
 mod specifiers;
 mod specifying;

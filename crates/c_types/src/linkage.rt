@@ -7,8 +7,8 @@ ghost use Rattle.c_types.specs.Follows.{Follows};
 
 use crate::binding::{Binding, Extent, Library};
 use crate::checker::{Checker, broken};
+use crate::conditions::is_same;
 use crate::fault::{TypeFault, TypeKind};
-use crate::plain::is_same;
 use crate::specifiers::Storage;
 use c_tree::Identifier;
 use hlo_num::{Name, Ty};

@@ -5,8 +5,8 @@ ghost use Rattle.c_types.specs.Conversions as specs;
 ghost use Rattle.c_types.specs.Uses as uses;
 
 use crate::conversion::{
-    Operator, Target, Typed, Valued, arm, converted, left_type, operand_type, result_type,
-    right_type, unary_type,
+    Operator, Target, Typed, Valued, arm, converted, left_type, operand_type, right_type,
+    unary_type,
 };
 use crate::uses::{Called, Subscripted};
 use c_tree::{Step, UnaryOp};
@@ -80,7 +80,7 @@ fn working(alloc: Global, op: BinaryOp, a: Valued, b: Valued) -> Result<Typed, A
 {
     let ty = left_type(op, a.ty, b.ty);
     let right_ty = right_type(op, a.ty, b.ty);
-    let result = result_type(op, a.ty, b.ty);
+    let result = op.result_type(ty);
     let left = converted(alloc, ty, a)?;
     let right = converted(alloc, right_ty, b)?;
     Ok(Typed {

@@ -7,10 +7,10 @@ ghost use Rattle.c_types.specs.Rules.{in_order};
 ghost use Rattle.c_types.specs.declared.specifiers.Part.TheVariants.{Listed};
 
 use crate::checker::{Checker, broken};
+use crate::conditions::{constant_binary, constant_unary};
 use crate::constant::{Constant, ConstantValue, Evaluated, cast_value, chosen_value};
 use crate::conversion::sorted;
 use crate::fault::{TypeFault, TypeKind};
-use crate::plain::{constant_binary, constant_unary};
 use crate::specifiers::{Part, Site, Specified, meaning};
 use c_tree::{Enumerator, Expr, Specifier, Specifiers};
 use hlo_num::Ty;

@@ -14,14 +14,18 @@ use Rattle.c_typed.specs.Trees as tree
 use Rattle.c_typed.specs.Trees.{Place, Expr, Arguments}
 use Rattle.lower_laws.specs.Bound.{HasValue, IsExpr, IsPlace, AreArguments}
 use Rattle.lower_laws.specs.Code.{Code, put, close, Numbers, past_reg, past_instr, past_end, past_new, past_label, label, word}
-use Rattle.lower_laws.specs.Expressions.{is_open, logical_end, skipped, result_register, past, place_past, arguments_past, result, results, spot_at, code, place_code, arguments_code}
+use Rattle.lower_laws.specs.Expressions.{is_open, logical_end, skipped, result_register, past, place_past, arguments_past, result, results, spot_at}
+use Rattle.lower_laws.specs.Expressions.{code, place_code, arguments_code}
 use Rattle.lower_laws.specs.Operations.{store, conv_past, conv_result, conv_code, operation, unary_code, update_past, update_code}
-use Rattle.lower_laws.proofs.Coming.{Setting, goes, Leads, leads_here, leads_by, branch_is, jump_is, goes_label, passes_then, passes_put, passes_close, passes_label}
+use Rattle.lower_laws.proofs.Coming.{Setting, goes, Leads, leads_here, leads_by, branch_is, jump_is, goes_label, passes_then, passes_put, passes_close}
+use Rattle.lower_laws.proofs.Coming.{passes_label}
 use Rattle.lower_laws.proofs.Frames.{IsLaidOut, IsRoom, room_part, spot_in, spot_kept, spot_later}
-use Rattle.lower_laws.proofs.Growing.{grow, grow_place, grow_arguments, grow_new, grow_conv, grow_unary, grow_update, grow_result, grow_label, has_value, is_void, new_here, new_conv, result_new}
+use Rattle.lower_laws.proofs.Growing.{grow, grow_place, grow_arguments, grow_new, grow_conv, grow_unary, grow_update, grow_result, grow_label}
+use Rattle.lower_laws.proofs.Growing.{has_value, is_void, new_here, new_conv, result_new}
 use Rattle.lower_laws.proofs.Meeting.{Ready, Meets, meets_by, meets_weak, meets_then, lands_put, lands_here}
 use Rattle.lower_laws.proofs.Passing.{same_block, past_either, label_is_past, passes_expr}
-use Rattle.lower_laws.proofs.Pieces.{spot_ok, spot_below, as_value, if_value, meets_on, call_meets, lands_arm, lands_truth, logical_choice, meets_update, old_meets, step_meets}
+use Rattle.lower_laws.proofs.Pieces.{spot_ok, spot_below, as_value, if_value, meets_on, call_meets, lands_arm, lands_truth, logical_choice}
+use Rattle.lower_laws.proofs.Pieces.{meets_update, old_meets, step_meets}
 use Rattle.lower_laws.proofs.Steps.{meets_choose, meets_load, meets_store, meets_operation, meets_conv, meets_unary}
 
 -- a call of a routine is the call of its function, after which no turn has come back
@@ -130,7 +134,8 @@ module _ {S : Type 0} (c : Setting S) (laid : IsLaidOut c.routine c.function c.l
     expr_meets (tree.PutChar e) n {k} {l} {f} {w} ok room ready =
         let n1 = past e n in
         let g1 = grow e n in
-        if_value c _ (meets_then c {r0 = n.reg} {r1 = n1.reg} {k1 = put (instr.PutChar n1.reg (result e n)) k} {n1 = n1} (eval e l w) (omega arith) g1.reg ready.turns
+        if_value c _ (meets_then c {r0 = n.reg} {r1 = n1.reg} {k1 = put (instr.PutChar n1.reg (result e n)) k} {n1 = n1} (eval e l w) (omega arith) g1.reg
+        ready.turns
         (as_value c e _ ok.1 (expr_meets e n ok.0 (room_part (omega arith) (omega arith) room) ready))
         (λ v l1 w1 g ready1 keeps1 has1.
         meets_by c (ap (λ q. goes c k n1 (with_reg g n1.reg (low_byte q)) (after_put q w1)) has1)
@@ -200,7 +205,8 @@ module _ {S : Type 0} (c : Setting S) (laid : IsLaidOut c.routine c.function c.l
         leads_by c second (passes_then c (passes_expr c c.layout a first (past_either (is_open a) _ _ (omega arith)))
         (passes_close c _ first_end second refl (omega arith))) in
         let to_end : Leads c behind.block second other behind k =
-        leads_by c behind (passes_then c (passes_expr c c.layout b second (label_is_past opened second_end)) (passes_label c opened second_end (omega arith))) in
+        leads_by c behind (passes_then c (passes_expr c c.layout b second (label_is_past opened second_end)) (passes_label c opened second_end (omega arith)))
+        in
         meets_then c {r0 = n.reg} {r1 = asked.reg} {k1 = close (ends.Branch (result d n) first.block second.block) arms} {n1 = asked} (eval d l w)
         (omega arith) g1.reg ready.turns
         (as_value c d _ ok.0.1 (expr_meets d n ok.0.0 (room_part (omega arith) (omega (arith, g2.reg, g3.reg, g5.reg)) room) ready))
@@ -210,7 +216,8 @@ module _ {S : Type 0} (c : Setting S) (laid : IsLaidOut c.routine c.function c.l
         (expr_meets a first ok.1.0 (room_part (omega (arith, g1.reg)) (omega (arith, g3.reg, g5.reg)) room) ready1)
         (λ u l2 w2 f2 ready2 has2.
         meets_by c (jump_is c f2 w2 first_end second refl to_end) (lands_here c u (λ has. is_void has) ready2)))
-        (meets_on c {r0 = second.reg} {r1 = second.reg} {k1 = last} {n1 = second_end} (eval b l1 w1) (omega (arith, g2.reg)) (omega (arith, g2.reg)) ready1.turns
+        (meets_on c {r0 = second.reg} {r1 = second.reg} {k1 = last} {n1 = second_end} (eval b l1 w1) (omega (arith, g2.reg)) (omega (arith, g2.reg))
+        ready1.turns
         (expr_meets b second ok.2.0 (room_part (omega (arith, g1.reg, g2.reg)) (omega (arith, g5.reg)) room) ready1)
         (λ u l2 w2 f2 ready2 has2.
         meets_by c (goes_label c k opened second_end f2 w2) (lands_here c u (λ has. is_void has) ready2)))))
@@ -223,7 +230,8 @@ module _ {S : Type 0} (c : Setting S) (laid : IsLaidOut c.routine c.function c.l
         let spot = spot_at p n in
         let below = spot_below c.scope p n ok.0 (room_part (omega arith) (omega (arith, g2.reg)) room) in
         let last = put (store c.layout spot (result e n1)) k in
-        if_value c _ (meets_then c {r0 = n.reg} {r1 = n1.reg} {k1 = code c.layout e n1 last} {n1 = n1} (place c.c_call c.function p l w) (omega arith) g1.reg ready.turns
+        if_value c _ (meets_then c {r0 = n.reg} {r1 = n1.reg} {k1 = code c.layout e n1 last} {n1 = n1} (place c.c_call c.function p l w) (omega arith) g1.reg
+        ready.turns
         (place_meets p n ok.0 (room_part (omega arith) g2.reg room) ready)
         (λ s l1 w1 f1 ready1 keeps1 has1.
         meets_then c {r0 = n1.reg} {r1 = n2.reg} {k1 = last} {n1 = n2} (eval e l1 w1) (omega arith) g2.reg ready1.turns

@@ -184,4 +184,5 @@ module _ {S : Type 0} (c : Setting S) where
         → Passes c t n (arguments_code y es n k) (arguments_past es n) k
     passes_arguments {t} {k} y tree.None n lt = passes_none c t n k
     passes_arguments y (tree.Argument e es) n lt =
-        passes_then c (passes_expr y e n (past_either (is_open e) _ _ (omega (arith, (grow_arguments es (past e n)).block)))) (passes_arguments y es (past e n) lt)
+        passes_then c (passes_expr y e n (past_either (is_open e) _ _ (omega (arith, (grow_arguments es (past e n)).block))))
+        (passes_arguments y es (past e n) lt)

@@ -27,7 +27,8 @@ use Rattle.lower_laws.specs.Expressions.{logical_end, skipped, result_past, resu
 use Rattle.lower_laws.specs.Layouts.{Layout}
 use Rattle.lower_laws.specs.Operations.{load, store, conv_past, conv_result, conv_code, update_past, update_result, update_code}
 use Rattle.lower_laws.proofs.Coming.{Setting, goes, Leads, branch_is, jump_is}
-use Rattle.lower_laws.proofs.Frames.{IsLaidOut, IsFree, IsRoom, room_part, IsSpot, spot_in, SpotBelow, spot_kept, spot_later, keeps_none, keeps_put, agrees_free, put_here}
+use Rattle.lower_laws.proofs.Frames.{IsLaidOut, IsFree, IsRoom, room_part, IsSpot, spot_in, SpotBelow, spot_kept, spot_later, keeps_none, keeps_put}
+use Rattle.lower_laws.proofs.Frames.{agrees_free, put_here}
 use Rattle.lower_laws.proofs.Growing.{grow_place, grow_new, grow_conv, grow_update, new_here, new_conv, new_update, result_new, is_void}
 use Rattle.lower_laws.proofs.Meeting.{Ready, Meets, meets_by, meets_weak, meets_then, meets_is, lands_put}
 use Rattle.lower_laws.proofs.Steps.{Has, meets_choose, meets_load, meets_store, meets_operation, meets_conv}
@@ -107,7 +108,8 @@ module _ {S : Type 0} (c : Setting S) where
       (Is (is_nonzero u) l w)
   lands_truth {r} {k} {j} {l} {f} {w} n n0 n5 d s u same e rd dn sn fd fs fz leads ready =
       meets_then c {go = λ q l1 w1. Is (truth (not (u == q))) l1 w1} (Is 0 l w) (omega arith) (omega arith) ready.turns
-      (lands_put c {r = n.reg} {k = put (instr.Bin op.Ne d s n.reg) (close (ends.Jump n5.block) j)} {n = past_new n} n.reg 0 0 w refl refl (omega arith) fz ready)
+      (lands_put c {r = n.reg} {k = put (instr.Bin op.Ne d s n.reg) (close (ends.Jump n5.block) j)} {n = past_new n} n.reg 0 0 w refl refl (omega arith) fz
+      ready)
       (λ q l1 w1 g ready1 keeps1 has1.
       meets_by c (jump_is c (with_reg g d (truth (not (g.regs s == g.regs n.reg)))) w1 n n0 same leads)
       (lands_put c {r = d} d (truth (not (g.regs s == g.regs n.reg))) (truth (not (u == q))) w1 refl

@@ -21,7 +21,8 @@ use Rattle.lower_laws.specs.Expressions.{result_past, arm_past, arm_code, arm_op
 use Rattle.lower_laws.specs.Functions.{layout_of, first_numbers, body_past, last_numbers, last_code, nowhere, lowered}
 use Rattle.lower_laws.specs.Layouts.{Layout}
 use Rattle.lower_laws.specs.Operations.{conv_past, conv_code, unary_past, unary_code, update_past, update_code}
-use Rattle.lower_laws.specs.Statements.{optional_past, optional_open, optional_code, condition_past, condition_code, no_value_past, no_value_code, local_past, open_behind, sections_open, stmt_past, sections_past, tests_code, stmt_code, sections_code}
+use Rattle.lower_laws.specs.Statements.{optional_past, optional_open, optional_code, condition_past, condition_code, no_value_past, no_value_code}
+use Rattle.lower_laws.specs.Statements.{local_past, open_behind, sections_open, stmt_past, sections_past, tests_code, stmt_code, sections_code}
 use Rattle.lower_laws.specs.Switches.{labels_past, labels_code, label_tests_past, tests_past, label_tests}
 
 -- the size of blocks, from the front

@@ -6,7 +6,8 @@ use Rattle.c_typed.specs.declared.statement.Label.{Label}
 use Rattle.c_typed.specs.Trees.{Expr, Stmt, Sections}
 use Rattle.lower_laws.specs.Code.{Code, close, Numbers, past_end, past_label, label}
 use Rattle.lower_laws.specs.Expressions.{is_open, past, code}
-use Rattle.lower_laws.specs.Statements.{optional_past, optional_open, optional_code, condition_past, condition_code, open_behind, stmt_past, tests_code, stmt_code}
+use Rattle.lower_laws.specs.Statements.{optional_past, optional_open, optional_code, condition_past, condition_code, open_behind, stmt_past, tests_code}
+use Rattle.lower_laws.specs.Statements.{stmt_code}
 use Rattle.lower_laws.specs.Switches.{labels_past, labels_open, labels_code, tests_past}
 use Rattle.lower_laws.proofs.Coming.{Setting, passes_close, passes_label}
 use Rattle.lower_laws.proofs.Flowing.{At, at_by}

@@ -6,7 +6,8 @@ use Rattle.c_typed.specs.Trees as tree
 use Rattle.c_typed.specs.Trees.{Expr, Stmt, Sections}
 use Rattle.lower_laws.specs.Code.{Numbers, past_label}
 use Rattle.lower_laws.specs.Layouts.{Outline}
-use Rattle.lower_laws.specs.Statements.{optional_past, optional_open, condition_past, no_value_past, local_past, open_behind, sections_open, stmt_past, sections_past}
+use Rattle.lower_laws.specs.Statements.{optional_past, optional_open, condition_past, no_value_past, local_past, open_behind, sections_open, stmt_past}
+use Rattle.lower_laws.specs.Statements.{sections_past}
 use Rattle.lower_laws.specs.Switches.{labels_past, labels_open, test_past, label_tests_past, tests_past}
 use Rattle.lower_laws.proofs.Growing.{Grows, grow, grow_then, grow_none, grow_new, grow_reg, grow_instr, grow_end, grow_label}
 use Rattle.lower_laws.proofs.Passing.{IsPast, past_either, past_whole}

@@ -18,12 +18,15 @@ use Rattle.c_typed.specs.Trees.{Expr, Stmt, Sections}
 use Rattle.lower_laws.specs.Code.{Code, put, close, Numbers, past_instr, past_end, past_label, label}
 use Rattle.lower_laws.specs.Expressions.{is_open, past, result, code}
 use Rattle.lower_laws.specs.Operations.{store}
-use Rattle.lower_laws.specs.Statements.{optional_past, optional_open, optional_code, condition_past, condition_code, no_value_code, local_past, open_behind, sections_open, stmt_past, sections_past, section_block, tests_code, stmt_code, sections_code}
+use Rattle.lower_laws.specs.Statements.{optional_past, optional_open, optional_code, condition_past, condition_code, no_value_code, local_past}
+use Rattle.lower_laws.specs.Statements.{open_behind, sections_open, stmt_past, sections_past, section_block, tests_code, stmt_code, sections_code}
 use Rattle.lower_laws.specs.Switches.{labels_past, labels_open, labels_code, tests_past}
-use Rattle.lower_laws.proofs.Coming.{Setting, goes, from, Passes, Leads, leads_here, leads_by, branch_is, jump_is, goes_label, passes_then, passes_close, passes_label}
+use Rattle.lower_laws.proofs.Coming.{Setting, goes, from, Passes, Leads, leads_here, leads_by, branch_is, jump_is, goes_label, passes_then}
+use Rattle.lower_laws.proofs.Coming.{passes_close, passes_label}
 use Rattle.lower_laws.proofs.ExpressionsMeet.{CallsMeet, expr_meets}
 use Rattle.lower_laws.proofs.Fine.{FineValue, FineOptional, FineCondition, Fine, FineSections, LeadsPast, leads_past_by}
-use Rattle.lower_laws.proofs.Flowing.{ends_same, Flows, flows_by, comes_here, breaks_here, continues_here, flows_do, flows_next, flows_on, flows_choose, flows_again, At, LoopsMeet}
+use Rattle.lower_laws.proofs.Flowing.{ends_same, Flows, flows_by, comes_here, breaks_here, continues_here, flows_do, flows_next, flows_on, flows_choose}
+use Rattle.lower_laws.proofs.Flowing.{flows_again, At, LoopsMeet}
 use Rattle.lower_laws.proofs.Frames.{IsLaidOut, put_here}
 use Rattle.lower_laws.proofs.Growing.{grow, grow_label, result_new}
 use Rattle.lower_laws.proofs.Meeting.{Ready, Meets, meets_weak}
@@ -63,7 +66,8 @@ module _ {S : Type 0} (c : Setting S) where
     valued e n fine ready = meets_weak c _ (λ u g implies. implies fine.has) (expr_meets c laid calls e n fine.bound fine.room ready)
 
     -- an expression that may be absent
-    optional_flows : {p q : End} {k2 : Code} {n2 : Numbers} {l : Locals} {f : Frame} {w : World S} {go : Locals → World S → Flow S} (k1 : Code) (e : Option Expr) (n : Numbers)
+    optional_flows : {p q : End} {k2 : Code} {n2 : Numbers} {l : Locals} {f : Frame} {w : World S} {go : Locals → World S → Flow S} (k1 : Code)
+        (e : Option Expr) (n : Numbers)
         → FineOptional c.layout c.scope e n → Ready c l f w
         → ((l1 : Locals) (w1 : World S) (g : Frame) → Ready c l1 g w1 → Flows c p q k2 n2 w1.turns (goes c k1 (optional_past e n) g w1) (go l1 w1))
         → Flows c p q k2 n2 w.turns (goes c (optional_code c.layout e n k1) n f w) (meaning.optional c.c_call c.function e go l w)
@@ -132,7 +136,8 @@ module _ {S : Type 0} (c : Setting S) where
         optional_flows back d step fine.3 ready3 (λ l4 w4 f4 ready4. loops.by (tree.For None b d s) p q n1 k l4 f4 w4 fine bp bq there ready4))
 
     -- the condition of `for`
-    condition_flows : {k : Code} {l : Locals} {f : Frame} {w : World S} {go : Locals → World S → Flow S} (b d : Option Expr) (s : Stmt) (p q : End) (n1 : Numbers)
+    condition_flows : {k : Code} {l : Locals} {f : Frame} {w : World S} {go : Locals → World S → Flow S} (b d : Option Expr) (s : Stmt) (p q : End)
+        (n1 : Numbers)
         → FineCondition c.layout c.scope b n1 → Ready c l f w
         → ((l1 : Locals) (f1 : Frame) (w1 : World S) → Ready c l1 f1 w1
         → Flows c p q k (for_behind b d s n1) w1.turns (goes c (for_body b d s n1 k) (condition_past b n1) f1 w1) (go l1 w1))
@@ -184,7 +189,8 @@ module _ {S : Type 0} (c : Setting S) where
     mutual
       pub stmt_meets : (s : Stmt) (p q : End) (opened : Bool) (n : Numbers) {k : Code} {l : Locals} {f : Frame} {w : World S} → Fine c.layout c.scope s opened n
           → LeadsPast (open_behind s opened) (stmt_past c.layout.outline s opened n).block p
-          → LeadsPast (open_behind s opened) (stmt_past c.layout.outline s opened n).block q → At c E opened n (stmt_code c.layout p q s opened n k) → Ready c l f w
+          → LeadsPast (open_behind s opened) (stmt_past c.layout.outline s opened n).block q → At c E opened n (stmt_code c.layout p q s opened n k)
+          → Ready c l f w
           → Flows c p q k (stmt_past c.layout.outline s opened n) w.turns (goes c (stmt_code c.layout p q s opened n k) n f w)
           (meaning.stmt c.c_call c.c_again c.function s l w)
       stmt_meets tree.Empty p q opened n fine bp bq there ready = comes_here c ready
@@ -229,7 +235,8 @@ module _ {S : Type 0} (c : Setting S) where
           let earlier = λ (t : ℕ) (later : n3.block < t). past_either o n2.block t (omega (arith, g2.block)) in
           let to_end : Leads c n3.block n1 first n3 k =
           leads_by c n3 (passes_then c (passes_stmt c y p q s true n1 (label_is_past o n2)) (passes_label c o n2 (omega arith))) in
-          flows_do c {k1 = close (ends.Branch (result e n) n1.block n3.block) first} {n1 = n0} (expr c.c_call c.function e l w) ready.turns (valued e n fine.0 ready)
+          flows_do c {k1 = close (ends.Branch (result e n) n1.block n3.block) first} {n1 = n0} (expr c.c_call c.function e l w) ready.turns
+          (valued e n fine.0 ready)
           (λ v l1 w1 f1 ready1 has1.
           flows_by c (branch_is c f1 w1 n0 n1 refl has1 (leads_here c n1) to_end)
           (flows_choose c v
@@ -265,13 +272,15 @@ module _ {S : Type 0} (c : Setting S) where
           (passes_then c (passes_stmt c y p q t true n2 (past2 u later)) (passes_label c {k = k} o n3 (omega arith))) in
           let pass2 = λ (u : ℕ) (later : n4.block < u). passes_label c {t = u} {k = k} o n3 (omega arith) in
           let there1 = at_close c E _ true n0 n1 refl (at_open c E (is_open e) n0 (at_expr c E e opened n there)) in
-          flows_do c {k1 = close (ends.Branch (result e n) n1.block n2.block) first} {n1 = n0} (expr c.c_call c.function e l w) ready.turns (valued e n fine.0 ready)
+          flows_do c {k1 = close (ends.Branch (result e n) n1.block n2.block) first} {n1 = n0} (expr c.c_call c.function e l w) ready.turns
+          (valued e n fine.0 ready)
           (λ v l1 w1 f1 ready1 has1.
           flows_by c (branch_is c f1 w1 n0 n1 refl has1 (leads_here c n1) to_second)
           (flows_choose c v
           (flows_on c {k1 = middle} {n1 = ns} (runs s l1 w1) (ends_same c p true bp pass1) (ends_same c q true bq pass1)
           (λ f2 w2. jump_is c {k = second} {k1 = k} {n1 = n4} f2 w2 ns n2 refl to_end)
-          (stmt_meets s p q true n1 fine.1 (leads_past_by p true os n4.block ns.block past1 bp) (leads_past_by q true os n4.block ns.block past1 bq) there1 ready1))
+          (stmt_meets s p q true n1 fine.1 (leads_past_by p true os n4.block ns.block past1 bp) (leads_past_by q true os n4.block ns.block past1 bq) there1
+          ready1))
           (flows_on c {k1 = last} {n1 = n3} (runs t l1 w1) (ends_same c p true bp pass2) (ends_same c q true bq pass2) (λ f2 w2. goes_label c k o n3 f2 w2)
           (stmt_meets t p q true n2 fine.2 (leads_past_by p true o n4.block n3.block past2 bp) (leads_past_by q true o n4.block n3.block past2 bq)
           (at_close c E _ true ns n2 refl (at_open c E os ns (at_stmt c E p q s true n1 there1))) ready1))))

@@ -8,12 +8,14 @@ use Rattle.c_typed.specs.Trees.{Expr, Stmt, Sections}
 use Rattle.lower_laws.specs.Code.{Code, Numbers, past_end, past_new, past_label, label}
 use Rattle.lower_laws.specs.Expressions.{is_open, past}
 use Rattle.lower_laws.specs.Layouts.{Layout}
-use Rattle.lower_laws.specs.Statements.{optional_past, optional_open, optional_code, condition_past, condition_code, no_value_past, no_value_code, local_past, open_behind, sections_open, stmt_past, sections_past, tests_code, stmt_code, sections_code}
+use Rattle.lower_laws.specs.Statements.{optional_past, optional_open, optional_code, condition_past, condition_code, no_value_past, no_value_code}
+use Rattle.lower_laws.specs.Statements.{local_past, open_behind, sections_open, stmt_past, sections_past, tests_code, stmt_code, sections_code}
 use Rattle.lower_laws.specs.Switches.{labels_past, labels_open, labels_code, test_past, label_tests_past, tests_past, label_tests}
 use Rattle.lower_laws.proofs.Coming.{Setting, from, Passes, passes_none, passes_then, passes_put, passes_close, passes_label}
 use Rattle.lower_laws.proofs.Growing.{grow, grow_label}
 use Rattle.lower_laws.proofs.Passing.{IsPast, past_either, passes_expr}
-use Rattle.lower_laws.proofs.StatementsGrow.{grow_optional, grow_condition, grow_label_tests, grow_tests, grow_stmt, grow_sections, past_row, past_labels, past_stmt, past_sections}
+use Rattle.lower_laws.proofs.StatementsGrow.{grow_optional, grow_condition, grow_label_tests, grow_tests, grow_stmt, grow_sections, past_row}
+use Rattle.lower_laws.proofs.StatementsGrow.{past_labels, past_stmt, past_sections}
 
 module _ {S : Type 0} (c : Setting S) where
   pub passes_labels : {t : ℕ} {k : Code} (ls : List Label) (opened : Bool) (n : Numbers)

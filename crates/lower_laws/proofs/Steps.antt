@@ -36,14 +36,16 @@ module _ {S : Type 0} (c : Setting S) where
   abbrev pub Has : ℕ → ℕ → Frame → Type 0
   Has d q g = g.regs d ≡ q
 
-  tested : {P : Type 0} {Holds : P → Frame → Type 0} {r : ℕ} {k : Code} {n : Numbers} {f : Frame} {t : ℕ} {o : Outcome S} {v : Value S P} (b : Bool) (w : World S)
+  tested : {P : Type 0} {Holds : P → Frame → Type 0} {r : ℕ} {k : Code} {n : Numbers} {f : Frame} {t : ℕ} {o : Outcome S} {v : Value S P} (b : Bool)
+      (w : World S)
       → Meets c Holds r k n f t o v
       → Meets c Holds r k n f t (if b then o else ended (Trapped Index) w) (if b then v else Cut (ended (Trapped Index) w))
   tested true w h = h
   tested false w h = record { by = (refl, tt) }
 
   -- an index inside a length, or the trap
-  meets_within : {P : Type 0} {Holds : P → Frame → Type 0} {r : ℕ} {k : Code} {n : Numbers} {f : Frame} {t : ℕ} {o : Outcome S} {v : Value S P} (i len len1 : ℕ) (w : World S)
+  meets_within : {P : Type 0} {Holds : P → Frame → Type 0} {r : ℕ} {k : Code} {n : Numbers} {f : Frame} {t : ℕ} {o : Outcome S} {v : Value S P} (i len len1 : ℕ)
+      (w : World S)
       → len ≡ len1 → Meets c Holds r k n f t o v → Meets c Holds r k n f t (within i len w o) (inside i len1 w v)
   meets_within {P} {Holds} {r} {k} {n} {f} {t} {o} {v} i len len1 w e h =
       subst (λ q. Meets c Holds r k n f t (within i len w o) (inside i q w v)) e (tested (nat_lt i len) w h)

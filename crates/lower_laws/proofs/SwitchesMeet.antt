@@ -105,7 +105,8 @@ module _ {S : Type 0} (c : Setting S) where
       let f2 = with_reg f1 (suc n.reg) bit in
       let a1 = agrees_free n.reg q.0 (room.by n.reg (omega arith) (omega (arith, gt.reg))) agrees in
       let a2 = agrees_free (suc n.reg) bit (room.by (suc n.reg) (omega arith) (omega (arith, gt.reg))) a1 in
-      let kept : Keeps c.layout c.scope n.reg f f2 = keeps_then {r1 = n.reg} (omega arith) (keeps_put f n.reg q.0 (omega arith)) (keeps_put f1 (suc n.reg) bit (omega arith)) in
+      let kept : Keeps c.layout c.scope n.reg f f2 = keeps_then {r1 = n.reg} (omega arith) (keeps_put f n.reg q.0 (omega arith))
+      (keeps_put f1 (suc n.reg) bit (omega arith)) in
       let here = (past_label opened there).block in
       let rest = label_tests z ls true (past_label opened there) (test_past n) k in
       let e1 : f1.regs z ≡ v = put_other f.regs n.reg q.0 z (λ h. omega arith) ∙ e in

@@ -19,12 +19,15 @@ use Rattle.c_typed.specs.Trees as tree
 use Rattle.c_typed.specs.Trees.{Place, Expr, Arguments}
 use Rattle.lower_laws.specs.Bound.{Scope, HasValue, IsExpr, IsPlace, AreArguments}
 use Rattle.lower_laws.specs.Code.{Code, put, Numbers, past_reg, past_instr, past_end, past_new, past_label, word}
-use Rattle.lower_laws.specs.Expressions.{skipped, arm_open, result_past, result_register, arm_past, past, place_past, arguments_past, result, spot_at, results, code, place_code, arguments_code}
+use Rattle.lower_laws.specs.Expressions.{skipped, arm_open, result_past, result_register, arm_past, past, place_past, arguments_past, result, spot_at}
+use Rattle.lower_laws.specs.Expressions.{results, code, place_code, arguments_code}
 use Rattle.lower_laws.specs.Fits.{FitsExpr, FitsPlace, FitsArguments, argument_count}
 use Rattle.lower_laws.specs.Layouts.{Layout}
 use Rattle.lower_laws.specs.Operations.{load, conv_past, conv_result, conv_code, update_code}
-use Rattle.lower_laws.proofs.Growing.{grow_label, grow_result, grow_conv, grow_unary, grow_update, grow, grow_arguments, new_conv, new_here, has_value, result_new}
-use Rattle.lower_laws.proofs.Stands.{HasRoom, Stands, HasSpot, block_below, stands_put, stands_close, stands_label, stands_conv, stands_unary, stands_arm, stands_update, valid_operation, valid_logical, valid_load, valid_store}
+use Rattle.lower_laws.proofs.Growing.{grow_label, grow_result, grow_conv, grow_unary, grow_update, grow, grow_arguments, new_conv, new_here, has_value}
+use Rattle.lower_laws.proofs.Growing.{result_new}
+use Rattle.lower_laws.proofs.Stands.{HasRoom, Stands, HasSpot, block_below, stands_put, stands_close, stands_label, stands_conv, stands_unary}
+use Rattle.lower_laws.proofs.Stands.{stands_arm, stands_update, valid_operation, valid_logical, valid_load, valid_store}
 
 module _ (rows : List ShapeRow) (r : RoutineParts) (y : Layout) (s : Scope) (room : HasRoom r y s) where
   -- the register of a result is one of the routine

@@ -18,14 +18,17 @@ use Rattle.lower_laws.specs.Code.{Code, Numbers, past_instr, past_end, past_new,
 use Rattle.lower_laws.specs.Expressions.{past, result}
 use Rattle.lower_laws.specs.Fits.{FitsOptional, Around, in_loop, in_switch, FitsStmt, FitsSections}
 use Rattle.lower_laws.specs.Layouts.{Layout}
-use Rattle.lower_laws.specs.Statements.{optional_past, optional_open, optional_code, condition_past, condition_code, no_value_past, no_value_code, local_past, open_behind, sections_open, stmt_past, sections_past, section_block, tests_code, stmt_code, sections_code}
+use Rattle.lower_laws.specs.Statements.{optional_past, optional_open, optional_code, condition_past, condition_code, no_value_past, no_value_code}
+use Rattle.lower_laws.specs.Statements.{local_past, open_behind, sections_open, stmt_past, sections_past, section_block, tests_code, stmt_code}
+use Rattle.lower_laws.specs.Statements.{sections_code}
 use Rattle.lower_laws.specs.Switches.{labels_past, labels_open, labels_code, label_block, test_past, label_tests_past, tests_past, label_tests}
 use Rattle.lower_laws.proofs.Fine.{FineOptional, FineCondition, Fine, FineSections}
 use Rattle.lower_laws.proofs.Growing.{grow, grow_label}
 use Rattle.lower_laws.proofs.Passing.{IsPast, past_either, label_is_past}
 use Rattle.lower_laws.proofs.Sizes.{local_same}
 use Rattle.lower_laws.proofs.Stands.{HasRoom, Stands, block_below, stands_same, stands_put, stands_close, stands_label, valid_store}
-use Rattle.lower_laws.proofs.StatementsGrow.{grow_optional, grow_condition, grow_labels, grow_label_tests, grow_tests, grow_stmt, grow_sections, past_stmt, past_sections}
+use Rattle.lower_laws.proofs.StatementsGrow.{grow_optional, grow_condition, grow_labels, grow_label_tests, grow_tests, grow_stmt, grow_sections}
+use Rattle.lower_laws.proofs.StatementsGrow.{past_stmt, past_sections}
 use Rattle.lower_laws.proofs.ValidExpressions.{there, stands_expr}
 
 -- what is past a label is past the place before it

@@ -16,7 +16,8 @@ use Rattle.c_typed.specs.Trees as tree
 use Rattle.c_typed.specs.Trees.{Place, Expr, Arguments}
 use Rattle.lower_laws.specs.Code.{Code, put, close, Numbers, past_reg, past_instr, past_end, past_site, past_new, past_label, label, word}
 use Rattle.lower_laws.specs.Layouts.{Layout}
-use Rattle.lower_laws.specs.Operations.{load, store, conv_past, conv_result, conv_code, operation, unary_past, unary_result, unary_code, update_past, update_result, update_code}
+use Rattle.lower_laws.specs.Operations.{load, store, conv_past, conv_result, conv_code, operation, unary_past, unary_result, unary_code, update_past}
+use Rattle.lower_laws.specs.Operations.{update_result, update_code}
 
 -- whether a block is open behind an expression: none is behind `exit`, or where it comes last
 abbrev pub is_open : Expr → Bool

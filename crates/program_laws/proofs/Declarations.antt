@@ -39,7 +39,8 @@ use Rattle.c_types.specs.Scopes.{innermost}
 use Rattle.c_types.specs.StatementRules.{declares, value_type}
 use Rattle.program_laws.specs.Growing.{entity_in, standing_in, entity_at, standing_at}
 use Rattle.program_laws.specs.Settled.{IsProvided, AreSettled}
-use Rattle.program_laws.proofs.Files.{Sure, sure_and, sure_any, sure_gives, FileHolds, Files, files_and, files_quiet, files_gives, files_breaks, files_if, files_tests}
+use Rattle.program_laws.proofs.Files.{Sure, sure_and, sure_any, sure_gives, FileHolds, Files, files_and, files_quiet, files_gives, files_breaks}
+use Rattle.program_laws.proofs.Files.{files_if, files_tests}
 use Rattle.program_laws.proofs.Fine as fine
 use Rattle.program_laws.proofs.Fine.{Any}
 use Rattle.program_laws.proofs.Holding.{Holding, Lacks, IsAwaited, file_of, holding_bound, settled_function, some_is, array_function}
@@ -47,7 +48,8 @@ use Rattle.program_laws.proofs.Links.{IsLinked, LinkHolds, link_does}
 use Rattle.program_laws.proofs.Objects.{file_object_files}
 use Rattle.program_laws.proofs.States.{AreCoherent, IsNested, at_file, all_grown}
 use Rattle.program_laws.proofs.Statements.{value_type_fine}
-use Rattle.program_laws.proofs.Tables.{IsEntering, Accepts, standing_met, entity_here, standing_here, entity_other, standing_other, said_here, entering_grows, at_or_not, grows_same}
+use Rattle.program_laws.proofs.Tables.{IsEntering, Accepts, standing_met, entity_here, standing_here, entity_other, standing_other, said_here}
+use Rattle.program_laws.proofs.Tables.{entering_grows, at_or_not, grows_same}
 use Rattle.program_laws.proofs.Typings.{specifying_fine}
 
 -- ## Parameters

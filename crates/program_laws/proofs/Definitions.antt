@@ -1,5 +1,6 @@
 -- The definition of a function: its name is defined, and the function stands in the table behind it.
-use Rattle.std.proofs.Common.{◌≡◌, ◌≢◌, ℕ, suc, ◌+◌, ◌-◌, ◌≤◌, Bool, true, false, List, [], ◌∷◌, ◌++◌, length, Option, Some, None, refl, sym, ap, ◌∙◌, subst, arith}
+use Rattle.std.proofs.Common.{◌≡◌, ◌≢◌, ℕ, suc, ◌+◌, ◌-◌, ◌≤◌, Bool, true, false, List, [], ◌∷◌, ◌++◌, length, Option, Some, None, refl, sym, ap, ◌∙◌}
+use Rattle.std.proofs.Common.{subst, arith}
 use Rattle.std.specs.Prelude.{if◌then◌else◌, not, is_some, IsTrue, nat_eq}
 use Rattle.std.specs.List.{AllByRecursion}
 use Rattle.std.proofs.lemmas.Bool.{true≢false, false≢true}
@@ -53,7 +54,8 @@ use Rattle.program_laws.proofs.Fine as fine
 use Rattle.program_laws.proofs.Fine.{Any}
 use Rattle.program_laws.proofs.Holding.{Holding, all_map, holding_after, settled_function, some_is}
 use Rattle.program_laws.proofs.Links.{IsLinked, LinkHolds, link_does}
-use Rattle.program_laws.proofs.States.{AreCoherent, IsNested, IsOk, After, after_left, after_then, ok_entered, all_grown, coherent_inner, coherent_outer, coherent_append, nested_inner, nested_outer, file_inner, file_outer, at_file}
+use Rattle.program_laws.proofs.States.{AreCoherent, IsNested, IsOk, After, after_left, after_then, ok_entered, all_grown, coherent_inner}
+use Rattle.program_laws.proofs.States.{coherent_outer, coherent_append, nested_inner, nested_outer, file_inner, file_outer, at_file}
 use Rattle.program_laws.proofs.Statements.{FitStatements, blocking_fine}
 use Rattle.program_laws.proofs.Tables.{Accepts, standing_met, entity_here, standing_here, said_here, entering_grows, at_or_not, marked_grows, grows_then}
 use Rattle.program_laws.proofs.Typings.{specifying_fine}

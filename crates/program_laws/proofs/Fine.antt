@@ -17,7 +17,8 @@ use Rattle.c_types.specs.StatementRules.{labelling}
 use Rattle.std.proofs.lemmas.Bool.{false≢true}
 use Rattle.sym_tables.specs.Table.{Table, same_name}
 use Rattle.program_laws.specs.Growing.{Covers}
-use Rattle.program_laws.proofs.States.{IsObjectAt, IsCoherent, AreCoherent, IsOk, After, after_same, after_then, after_beside, after_bound, fresh_if, ok_entered, after_left}
+use Rattle.program_laws.proofs.States.{IsObjectAt, IsCoherent, AreCoherent, IsOk, After, after_same, after_then, after_beside, after_bound, fresh_if}
+use Rattle.program_laws.proofs.States.{ok_entered, after_left}
 use Rattle.program_laws.proofs.Tables.{marked_same, marked_grows, covers_before}
 
 abbrev pub Any : {A : Type 0} → A → Type 0

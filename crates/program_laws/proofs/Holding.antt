@@ -28,7 +28,8 @@ use Rattle.c_types.specs.Scopes.{Declared}
 use Rattle.program_laws.specs.Growing.{entity_in, entity_at, standing_at, IsMore, Grows}
 use Rattle.program_laws.specs.Settled.{AreOnce, Stands, IsProvided, AreSettled}
 use Rattle.program_laws.proofs.States.{AreCoherent, IsCoherent, IsOk, After, at_file, file_is, file_bound}
-use Rattle.program_laws.proofs.Tables.{IsMarked, marked_grows, covers_before, IsEntering, entity_met, entity_here, entity_other, standing_other, said_here, entering_grows, at_or_not}
+use Rattle.program_laws.proofs.Tables.{IsMarked, marked_grows, covers_before, IsEntering, entity_met, entity_here, entity_other, standing_other}
+use Rattle.program_laws.proofs.Tables.{said_here, entering_grows, at_or_not}
 
 -- ## Functions stay
 

@@ -40,14 +40,17 @@ use Rattle.c_types.specs.Names.{bound_here, bind}
 use Rattle.c_types.specs.Rules.{Here, Reply, Gives, Breaks, ◌>>=◌, followed, give, change}
 use Rattle.c_types.specs.StatementRules.{is_length, constant_word, length_of, value_type}
 use Rattle.program_laws.specs.Growing.{entity_in, standing_in, entity_at, standing_at, IsMore, Grows}
-use Rattle.program_laws.proofs.Files.{Sure, sure_and, sure_any, sure_gives, sure_tests, FileHolds, Files, files_and, files_quiet, files_breaks, files_if, files_further}
+use Rattle.program_laws.proofs.Files.{Sure, sure_and, sure_any, sure_gives, sure_tests, FileHolds, Files, files_and, files_quiet, files_breaks}
+use Rattle.program_laws.proofs.Files.{files_if, files_further}
 use Rattle.program_laws.proofs.Fine as fine
 use Rattle.program_laws.proofs.Fine.{Any}
-use Rattle.program_laws.proofs.Holding.{Holding, HasGoodLength, Lacks, IsAwaited, awaited_still, awaited_more, awaited_last, file_of, coherent_at, settled_object, some_is, array_scalar, array_length}
+use Rattle.program_laws.proofs.Holding.{Holding, HasGoodLength, Lacks, IsAwaited, awaited_still, awaited_more, awaited_last, file_of, coherent_at}
+use Rattle.program_laws.proofs.Holding.{settled_object, some_is, array_scalar, array_length}
 use Rattle.program_laws.proofs.Links.{IsLinked, LinkHolds, link_does}
 use Rattle.program_laws.proofs.States.{AreCoherent, IsCoherent, IsNested, IsOk, at_file, file_is, file_bound, all_grown, after_beside}
 use Rattle.program_laws.proofs.Statements.{constant_word_fine, length_fine, value_type_fine}
-use Rattle.program_laws.proofs.Tables.{entity_met, standing_met, entity_here, standing_here, entity_other, standing_other, said_here, entering_grows, at_or_not, IsNamed, named_once, more_then, initialised_marked, reflexive}
+use Rattle.program_laws.proofs.Tables.{entity_met, standing_met, entity_here, standing_here, entity_other, standing_other, said_here, entering_grows}
+use Rattle.program_laws.proofs.Tables.{at_or_not, IsNamed, named_once, more_then, initialised_marked, reflexive}
 
 -- ## Lengths
 

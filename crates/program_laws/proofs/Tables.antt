@@ -1,5 +1,6 @@
 -- What the changes of a table do to what is known of its names.
-use Rattle.std.proofs.Common.{◌≡◌, ◌≢◌, ℕ, zero, suc, ◌+◌, ◌<◌, Bool, true, false, cond, not, List, [], ◌∷◌, length, Option, Some, None, refl, sym, ap, ap₂, ◌∙◌, subst, arith, nat_eq, nat_lt, min, position, lt-ltb}
+use Rattle.std.proofs.Common.{◌≡◌, ◌≢◌, ℕ, zero, suc, ◌+◌, ◌<◌, Bool, true, false, cond, not, List, [], ◌∷◌, length, Option, Some, None, refl, sym, ap}
+use Rattle.std.proofs.Common.{ap₂, ◌∙◌, subst, arith, nat_eq, nat_lt, min, position, lt-ltb}
 use Rattle.std.specs.Prelude.{if◌then◌else◌, ⊤, ◌&&◌, ◌==◌}
 use Rattle.std.specs.Bool.{beq}
 use Rattle.std.specs.List.{AllByRecursion}
@@ -22,7 +23,8 @@ use Rattle.sym_tables.proofs.Agreement.{same_type_is}
 use Rattle.sym_tables.specs.Sound.{IsSound, IsKept, FitsWords}
 use Rattle.sym_tables.specs.Symbols.{met, later, is_open}
 use Rattle.sym_tables.specs.declared.fault.SymFault.TheVariants.{TypeClash, Duplicate, TooMany}
-use Rattle.sym_tables.specs.Table.{Table, same_name, pid_of, number_of, symbol_of, symbol_at, enter, mark, initialised, refusal, refusal_of, clashes, repeats, is_past_limits, routines, elements}
+use Rattle.sym_tables.specs.Table.{Table, same_name, pid_of, number_of, symbol_of, symbol_at, enter, mark, initialised, refusal, refusal_of, clashes}
+use Rattle.sym_tables.specs.Table.{repeats, is_past_limits, routines, elements}
 use Rattle.sym_tables.proofs.Changes.{kept_used, kept_given}
 use Rattle.sym_tables.proofs.Meets.{fits_met}
 use Rattle.sym_tables.proofs.Tables.{mark_at, given_at}

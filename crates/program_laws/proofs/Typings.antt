@@ -6,7 +6,8 @@ use Rattle.c_tree.specs.declared.expression.Specifier.{Specifier, roll-Specifier
 use Rattle.c_tree.specs.declared.expression.Enumerator.{Enumerator, roll-Enumerator, map-Enumerator}
 use Rattle.c_tree.specs.declared.expression.Specifiers.{Specifiers, roll-Specifiers, map-Specifiers}
 use Rattle.c_tree.specs.declared.expression.Expr.TheOpen.{Expr-F, Specifier-F, Specifiers-F, Enumerator-F}
-use Rattle.c_tree.specs.declared.expression.Expr.TheFolds.{ind-Expr, ind-Specifiers, fold-roll-Expr, fold-roll-Specifier, fold-roll-Enumerator, fold-roll-Specifiers}
+use Rattle.c_tree.specs.declared.expression.Expr.TheFolds.{ind-Expr, ind-Specifiers, fold-roll-Expr, fold-roll-Specifier, fold-roll-Enumerator}
+use Rattle.c_tree.specs.declared.expression.Expr.TheFolds.{fold-roll-Specifiers}
 use Rattle.c_types.specs.declared.specifiers.Part.{Part}
 use Rattle.c_types.specs.declared.specifiers.Site.{Site}
 use Rattle.c_types.specs.declared.specifiers.Specified.{Specified}
@@ -14,7 +15,8 @@ use Rattle.c_types.specs.ExpressionRules as rules
 use Rattle.c_types.specs.ExpressionRules.{Typing}
 use Rattle.c_types.specs.Rules.{Rule}
 use Rattle.il_core.specs.declared.shape.ShapeRow.{ShapeRow}
-use Rattle.program_laws.proofs.Expressions.{IsFine, AllFine, Parts, IsValueFine, AllCounted, SpecifierParts, expression_fine, specifier_fine, enumeration_constant_fine, specifiers_fine}
+use Rattle.program_laws.proofs.Expressions.{IsFine, AllFine, Parts, IsValueFine, AllCounted, SpecifierParts, expression_fine, specifier_fine}
+use Rattle.program_laws.proofs.Expressions.{enumeration_constant_fine, specifiers_fine}
 use Rattle.program_laws.proofs.Fine as fine
 use Rattle.program_laws.proofs.Fine.{Fine, Any}
 

@@ -15,7 +15,6 @@ use Rattle.c_tree.specs.declared.expression.UnaryOp.{UnaryOp}
 use Rattle.c_tree.specs.declared.expression.Identifier.{Identifier}
 use Rattle.c_tree.specs.declared.expression.Expr.TheOpen.{Expr-F, Specifier-F, Specifiers-F, Enumerator-F}
 use Rattle.c_typed.specs.declared.expression.BinaryOp.{BinaryOp}
-use Rattle.c_typed.specs.declared.expression.BinaryOp.TheVariants as op
 use Rattle.c_typed.specs.declared.expression.Variable.{Variable}
 use Rattle.c_typed.specs.declared.expression.Variable.TheVariants as variables
 use Rattle.c_typed.specs.declared.expression.Array.TheVariants as arrays
@@ -24,8 +23,7 @@ use Rattle.c_typed.specs.declared.expression.Place.TheOpen.{TypedExpr-F, Place-F
 use Rattle.c_typed.specs.declared.expression.Place.TheFolds.{fold-roll-Place, fold-roll-TypedExpr}
 use Rattle.c_typed.specs.declared.expression.TypedExpr.{TypedExpr, roll-TypedExpr, map-TypedExpr}
 use Rattle.c_typed.specs.Trees as tree
-use Rattle.c_typed.specs.Types as types
-use Rattle.c_typed.specs.Types.{type_of}
+use Rattle.c_typed.specs.Types.{result_type, type_of}
 use Rattle.c_typed.specs.Views.{arguments_from, place_layer, expr_layer, place_of, expr_of}
 use Rattle.c_types.specs.declared.binding.Binding.{Binding}
 use Rattle.c_types.specs.declared.binding.Binding.TheVariants as bindings
@@ -49,7 +47,7 @@ use Rattle.c_types.specs.declared.specifiers.Specified.{Specified}
 use Rattle.c_types.specs.declared.uses.Called.{Called}
 use Rattle.c_types.specs.declared.uses.Subscripted.{Subscripted}
 use Rattle.c_types.specs.Constants.{word_of_value, constant_name, constant_element}
-use Rattle.c_types.specs.Conversions.{converted, sorted, left_type, right_type, result_type, unary_type, operand_type, arms_type, arm}
+use Rattle.c_types.specs.Conversions.{converted, sorted, left_type, right_type, unary_type, operand_type, arms_type, arm}
 use Rattle.c_types.specs.Enumerations.{value_in, enumerator, is_library, fits_int}
 use Rattle.c_types.specs.ExpressionRules as rules
 use Rattle.c_types.specs.ExpressionRules.{Typing}
@@ -58,26 +56,8 @@ use Rattle.c_types.specs.Rules.{Here, Rule}
 use Rattle.c_types.specs.Specifiers.{meaning}
 use Rattle.c_types.specs.Uses.{read, variable, element, use_name, written, target_name, subscripted, use_function, function_entity, function_symbol}
 use Rattle.lower_laws.specs.Bound.{Scope, IsVariable, IsArray, IsExpr, IsPlace, AreArguments, HasValue}
-use Rattle.type_laws.proofs.Keeping.{IsNamed, Keeps, Any, AllKeep, and, gives, breaks, knows, tests, in_order_keeps, finds, binds, uses_pid, uses_tag, declares_tag}
-
--- the type of what an operator gives, by both definitions
-same_result : (o : BinaryOp) (a b : Ty) → Some (types.result_type o (left_type o a b)) ≡ Some (result_type o a b)
-same_result op.Or a b = refl
-same_result op.Xor a b = refl
-same_result op.And a b = refl
-same_result op.Equal a b = refl
-same_result op.NotEqual a b = refl
-same_result op.Less a b = refl
-same_result op.Greater a b = refl
-same_result op.LessEqual a b = refl
-same_result op.GreaterEqual a b = refl
-same_result op.ShiftLeft a b = refl
-same_result op.ShiftRight a b = refl
-same_result op.Add a b = refl
-same_result op.Subtract a b = refl
-same_result op.Multiply a b = refl
-same_result op.Divide a b = refl
-same_result op.Remainder a b = refl
+use Rattle.type_laws.proofs.Keeping.{IsNamed, Keeps, Any, AllKeep, and, gives, breaks, knows, tests, in_order_keeps, finds, binds, uses_pid, uses_tag}
+use Rattle.type_laws.proofs.Keeping.{declares_tag}
 
 -- ## What rules give
 
@@ -287,8 +267,8 @@ module _ (s : Scope) (o : Here) where
   working_typed q x y gx gy =
       let a = left_type q x.ty y.ty in
       let b = right_type q x.ty y.ty in
-      node_typed s (TypedExpr-F.Binary a q (converted a x) (converted b y)) (Some (result_type q x.ty y.ty))
-      ((converted_value s a x gx, converted_value s b y gy), same_result q x.ty y.ty)
+      node_typed s (TypedExpr-F.Binary a q (converted a x) (converted b y)) (Some (result_type q a))
+      ((converted_value s a x gx, converted_value s b y gy), refl)
 
   binary_typed : (q : Operator) (x y : Valued) → (IsValued s) x → (IsValued s) y → (IsTyped s) (rules.binary q x y)
   binary_typed (Skipping q) x y gx gy = node_typed s (TypedExpr-F.Logical q x.expr y.expr) (Some Int) ((value_of s x gx, value_of s y gy), refl)

@@ -45,7 +45,8 @@ use Rattle.c_types.specs.StatementRules.{Ruled, Blocked, Labelled}
 use Rattle.lower_laws.specs.Bound.{Scope, IsOptional, IsOptionalValue, IsStmt, AreSections, locals_behind, sections_behind}
 use Rattle.lower_laws.specs.Functions.{is_some_array}
 use Rattle.type_laws.proofs.Expressions.{IsTyped, IsValued, IsValue, value_of, converted_value, valued_keeps, constant_valued_keeps, word_keeps}
-use Rattle.type_laws.proofs.Going.{IsFront, front_then, slice_next, all_wider, Sound, Goes, scope, Does, led, loud, followed_by, then_outside, after_good, after_fact, ends, refused, scoped_does, labelling_does}
+use Rattle.type_laws.proofs.Going.{IsFront, front_then, slice_next, all_wider, Sound, Goes, scope, Does, led, loud, followed_by, then_outside}
+use Rattle.type_laws.proofs.Going.{after_good, after_fact, ends, refused, scoped_does, labelling_does}
 use Rattle.type_laws.proofs.Keeping.{Keeps, Any, and, gives, breaks, knows, changes, tests, outer_more, stays_beside}
 use Rattle.type_laws.proofs.Typings.{typing_keeps, specifying_keeps}
 

@@ -6,7 +6,8 @@ use Rattle.c_tree.specs.declared.expression.Specifier.{Specifier, roll-Specifier
 use Rattle.c_tree.specs.declared.expression.Enumerator.{Enumerator, roll-Enumerator, map-Enumerator}
 use Rattle.c_tree.specs.declared.expression.Specifiers.{Specifiers, roll-Specifiers, map-Specifiers}
 use Rattle.c_tree.specs.declared.expression.Expr.TheOpen.{Expr-F, Specifier-F, Specifiers-F, Enumerator-F}
-use Rattle.c_tree.specs.declared.expression.Expr.TheFolds.{ind-Expr, ind-Specifiers, fold-roll-Expr, fold-roll-Specifier, fold-roll-Enumerator, fold-roll-Specifiers}
+use Rattle.c_tree.specs.declared.expression.Expr.TheFolds.{ind-Expr, ind-Specifiers, fold-roll-Expr, fold-roll-Specifier, fold-roll-Enumerator}
+use Rattle.c_tree.specs.declared.expression.Expr.TheFolds.{fold-roll-Specifiers}
 use Rattle.c_types.specs.declared.specifiers.Part.{Part}
 use Rattle.c_types.specs.declared.specifiers.Site.{Site}
 use Rattle.c_types.specs.declared.specifiers.Specified.{Specified}
@@ -14,7 +15,8 @@ use Rattle.c_types.specs.ExpressionRules as rules
 use Rattle.c_types.specs.ExpressionRules.{Typing}
 use Rattle.c_types.specs.Rules.{Here, Rule}
 use Rattle.lower_laws.specs.Bound.{Scope}
-use Rattle.type_laws.proofs.Expressions.{AreKept, AllKept, Parts, IsValueKept, AllCounted, SpecifierParts, expression_keeps, specifier_keeps, enumeration_constant_keeps, specifiers_keep}
+use Rattle.type_laws.proofs.Expressions.{AreKept, AllKept, Parts, IsValueKept, AllCounted, SpecifierParts, expression_keeps, specifier_keeps}
+use Rattle.type_laws.proofs.Expressions.{enumeration_constant_keeps, specifiers_keep}
 use Rattle.type_laws.proofs.Keeping.{Keeps, Any, AllKeep}
 
 module _ (s : Scope) (o : Here) where

@@ -16,7 +16,6 @@ use Rattle.c_tree.specs.declared.expression.UnaryOp.{UnaryOp}
 use Rattle.c_tree.specs.declared.expression.Identifier.{Identifier}
 use Rattle.c_tree.specs.declared.expression.Expr.TheOpen.{Expr-F, Specifier-F, Specifiers-F, Enumerator-F}
 use Rattle.c_typed.specs.declared.expression.BinaryOp.{BinaryOp}
-use Rattle.c_typed.specs.declared.expression.BinaryOp.TheVariants as op
 use Rattle.c_typed.specs.declared.expression.Variable.{Variable}
 use Rattle.c_typed.specs.declared.expression.Variable.TheVariants as variables
 use Rattle.c_typed.specs.declared.expression.Array.TheVariants as arrays
@@ -25,8 +24,7 @@ use Rattle.c_typed.specs.declared.expression.Place.TheOpen.{TypedExpr-F, Place-F
 use Rattle.c_typed.specs.declared.expression.Place.TheFolds.{fold-roll-Place, fold-roll-TypedExpr}
 use Rattle.c_typed.specs.declared.expression.TypedExpr.{TypedExpr, roll-TypedExpr, map-TypedExpr}
 use Rattle.c_typed.specs.Trees as tree
-use Rattle.c_typed.specs.Types as types
-use Rattle.c_typed.specs.Types.{type_of}
+use Rattle.c_typed.specs.Types.{result_type, type_of}
 use Rattle.c_typed.specs.Views.{arguments_from, place_layer, expr_layer, place_of, expr_of}
 use Rattle.c_types.specs.declared.binding.Binding.{Binding}
 use Rattle.c_types.specs.declared.binding.Binding.TheVariants as bindings
@@ -50,7 +48,7 @@ use Rattle.c_types.specs.declared.specifiers.Specified.{Specified}
 use Rattle.c_types.specs.declared.uses.Called.{Called}
 use Rattle.c_types.specs.declared.uses.Subscripted.{Subscripted}
 use Rattle.c_types.specs.Constants.{word_of_value, constant_name, constant_element}
-use Rattle.c_types.specs.Conversions.{converted, sorted, left_type, right_type, result_type, unary_type, operand_type, common, arms_type, arm}
+use Rattle.c_types.specs.Conversions.{converted, sorted, left_type, right_type, unary_type, operand_type, common, arms_type, arm}
 use Rattle.c_types.specs.Enumerations.{value_in, enumerator, is_library, fits_int}
 use Rattle.c_types.specs.ExpressionRules as rules
 use Rattle.c_types.specs.ExpressionRules.{Typing}
@@ -63,27 +61,9 @@ use Rattle.program_laws.specs.Growing.{entity_in, entity_at}
 use Rattle.program_laws.proofs.Tables.{marked, marked_grows}
 use Rattle.typed_laws.specs.WellTyped.{Scope, IsVariable, IsArray, IsExpr, IsPlace, AreArguments, HasType, IsArm}
 use Rattle.typed_laws.proofs.Conversions.{common_promoted, unary_is, sides}
-use Rattle.typed_laws.proofs.Judging.{Any, Holds, DoesIf, Does, AllDo, step_beside, and_if, and, gives, breaks, knows, if_tests, in_order_does, finds, binds, uses_pid, uses_tag, declares_tag}
+use Rattle.typed_laws.proofs.Judging.{Any, Holds, DoesIf, Does, AllDo, step_beside, and_if, and, gives, breaks, knows, if_tests, in_order_does, finds}
+use Rattle.typed_laws.proofs.Judging.{binds, uses_pid, uses_tag, declares_tag}
 use Rattle.typed_laws.proofs.Names.{Final, scope, IsNamed, stays_same}
-
--- the type of what an operator gives, by both definitions
-same_result : (o : BinaryOp) (a b : Ty) → Some (types.result_type o (left_type o a b)) ≡ Some (result_type o a b)
-same_result op.Or a b = refl
-same_result op.Xor a b = refl
-same_result op.And a b = refl
-same_result op.Equal a b = refl
-same_result op.NotEqual a b = refl
-same_result op.Less a b = refl
-same_result op.Greater a b = refl
-same_result op.LessEqual a b = refl
-same_result op.GreaterEqual a b = refl
-same_result op.ShiftLeft a b = refl
-same_result op.ShiftRight a b = refl
-same_result op.Add a b = refl
-same_result op.Subtract a b = refl
-same_result op.Multiply a b = refl
-same_result op.Divide a b = refl
-same_result op.Remainder a b = refl
 
 -- ## What rules give
 
@@ -337,8 +317,8 @@ module _ (f : Final) where
       let a = converted_is (scope f) l x gx in
       let b = converted_is (scope f) r y gy in
       let both = sides q x.ty y.ty in
-      node_typed (scope f) (TypedExpr-F.Binary l q (converted l x) (converted r y)) (Some (result_type q x.ty y.ty))
-      ((a.0, a.1, both.left, b.0, r, b.1, both.right), same_result q x.ty y.ty)
+      node_typed (scope f) (TypedExpr-F.Binary l q (converted l x) (converted r y)) (Some (result_type q l))
+      ((a.0, a.1, both.left, b.0, r, b.1, both.right), refl)
 
   value_of : (v : Valued) → IsValued (scope f) v → HasValue (expr_of v.expr)
   value_of v ok = has_value (scope f) (expr_of v.expr) v.ty ok.1

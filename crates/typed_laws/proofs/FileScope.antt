@@ -31,7 +31,8 @@ use Rattle.c_types.specs.Names.{bound_here, declare_new}
 use Rattle.c_types.specs.Rules.{Here}
 use Rattle.c_types.specs.StatementRules.{is_length}
 use Rattle.program_laws.specs.Growing.{entity_at, IsMore}
-use Rattle.program_laws.proofs.Tables.{IsEntering, entering, place_number, entity_met, entity_here, said_here, entering_grows, more_then, initialised_marked, marked_grows}
+use Rattle.program_laws.proofs.Tables.{IsEntering, entering, place_number, entity_met, entity_here, said_here, entering_grows, more_then}
+use Rattle.program_laws.proofs.Tables.{initialised_marked, marked_grows}
 use Rattle.typed_laws.proofs.Judging.{Any, Holds, Does, DoesIf, step_beside, and, and_if, gives, breaks, knows, changes, if_tests, choose, binds}
 use Rattle.typed_laws.proofs.Names.{Final, IsObject, IsNamed, stays_same}
 use Rattle.typed_laws.proofs.Statements.{constant_word_does, length_does, value_type_does}

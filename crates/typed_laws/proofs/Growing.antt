@@ -12,7 +12,8 @@ use Rattle.c_typed.specs.Trees as tree
 use Rattle.c_typed.specs.Trees.{Place, Expr, Arguments, Stmt, Sections, Function}
 use Rattle.program_laws.specs.Growing.{entity_at, Grows}
 use Rattle.typed_laws.specs.Laws.{WellTypedStays}
-use Rattle.typed_laws.specs.WellTyped.{Scope, IsVariable, IsArray, IsExpr, IsPlace, AreArguments, IsOptional, IsOptionalValue, Around, in_loop, in_switch, IsStmt, AreSections, types_of}
+use Rattle.typed_laws.specs.WellTyped.{Scope, IsVariable, IsArray, IsExpr, IsPlace, AreArguments, IsOptional, IsOptionalValue, Around, in_loop}
+use Rattle.typed_laws.specs.WellTyped.{in_switch, IsStmt, AreSections, types_of}
 
 module _ (old new : Table) (g : Grows old new) where
   function_stays : (pid : ℕ) (gives : Option Ty) (params : List Ty) → entity_at old pid ≡ Some (entities.Function gives params)

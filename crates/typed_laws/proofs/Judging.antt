@@ -16,7 +16,8 @@ use Rattle.c_types.specs.Scopes.{Declared, latest, visible, innermost, declared}
 use Rattle.c_types.specs.Uses.{use_pid}
 use Rattle.program_laws.specs.Growing.{Grows}
 use Rattle.program_laws.proofs.Tables.{grows_then, marked, marked_grows}
-use Rattle.typed_laws.proofs.Names.{Final, IsNamed, AreNamed, IsFound, found, IsSound, Stays, sound_behind, stays_same, stays_then, stays_bound, sound_entered, stays_left, IsFront, Before, has_label, is_seen}
+use Rattle.typed_laws.proofs.Names.{Final, IsNamed, AreNamed, IsFound, found, IsSound, Stays, sound_behind, stays_same, stays_then, stays_bound}
+use Rattle.typed_laws.proofs.Names.{sound_entered, stays_left, IsFront, Before, has_label, is_seen}
 
 abbrev pub Any : {A : Type 0} → A → Type 0
 Any a = Unit {0}

@@ -19,7 +19,8 @@ use Rattle.c_typed.specs.declared.expression.TypedExpr.{TypedExpr, roll-TypedExp
 use Rattle.c_typed.specs.declared.expression.Variable.TheVariants as variables
 use Rattle.c_typed.specs.declared.statement.Label.{Label}
 use Rattle.c_typed.specs.declared.statement.Label.TheVariants as labels
-use Rattle.c_typed.specs.Trees.{Expr, Scalar, Constant, Read, Convert, Binary, Conditional, Assign, Call, Argument, None as no_more, Return, Switch, Section, End, Break}
+use Rattle.c_typed.specs.Trees.{Expr, Scalar, Constant, Read, Convert, Binary, Conditional, Assign, Call, Argument, None as no_more, Return, Switch}
+use Rattle.c_typed.specs.Trees.{Section, End, Break}
 use Rattle.c_types.specs.declared.binding.Binding.TheVariants as bindings
 use Rattle.c_types.specs.declared.binding.Extent.TheVariants as extents
 use Rattle.c_types.specs.declared.conversion.Typed.{Typed}

@@ -6,14 +6,16 @@ use Rattle.c_tree.specs.declared.expression.Specifier.{Specifier, roll-Specifier
 use Rattle.c_tree.specs.declared.expression.Enumerator.{Enumerator, roll-Enumerator, map-Enumerator}
 use Rattle.c_tree.specs.declared.expression.Specifiers.{Specifiers, roll-Specifiers, map-Specifiers}
 use Rattle.c_tree.specs.declared.expression.Expr.TheOpen.{Expr-F, Specifier-F, Specifiers-F, Enumerator-F}
-use Rattle.c_tree.specs.declared.expression.Expr.TheFolds.{ind-Expr, ind-Specifiers, fold-roll-Expr, fold-roll-Specifier, fold-roll-Enumerator, fold-roll-Specifiers}
+use Rattle.c_tree.specs.declared.expression.Expr.TheFolds.{ind-Expr, ind-Specifiers, fold-roll-Expr, fold-roll-Specifier, fold-roll-Enumerator}
+use Rattle.c_tree.specs.declared.expression.Expr.TheFolds.{fold-roll-Specifiers}
 use Rattle.c_types.specs.declared.specifiers.Part.{Part}
 use Rattle.c_types.specs.declared.specifiers.Site.{Site}
 use Rattle.c_types.specs.declared.specifiers.Specified.{Specified}
 use Rattle.c_types.specs.ExpressionRules as rules
 use Rattle.c_types.specs.ExpressionRules.{Typing}
 use Rattle.c_types.specs.Rules.{Rule}
-use Rattle.typed_laws.proofs.Expressions.{IsDone, AllDone, Parts, IsValueDone, AllCounted, SpecifierParts, expression_does, specifier_does, enumeration_constant_does, specifiers_do}
+use Rattle.typed_laws.proofs.Expressions.{IsDone, AllDone, Parts, IsValueDone, AllCounted, SpecifierParts, expression_does, specifier_does}
+use Rattle.typed_laws.proofs.Expressions.{enumeration_constant_does, specifiers_do}
 use Rattle.typed_laws.proofs.Judging.{Any, Does, AllDo}
 use Rattle.typed_laws.proofs.Names.{Final}
 

@@ -1,4 +1,5 @@
 use Rattle.c_module.proofs.Going.{reads, refuses, wants}
+use Rattle.c_module.proofs.Typings.{answers_well_typed}
 use Rattle.c_module.proofs.checking.check_modules.Goals as goal
 
 pub returns-clause-complete : goal.returns-clause-complete
@@ -15,3 +16,8 @@ pub returns-clause-reads : goal.returns-clause-reads
 returns-clause-reads g c = λ quiet.
     reads (g.S.Shelf.tells c.args.shelf.now) (g.S.Shelf.faults c.args.shelf.now) (g.S.Shelf.faults c.check_in_order.new.shelf) c.args.files.now
     c.check_in_order.result c.check_in_order.new.syms c.check_in_order.ensures.err quiet
+
+pub returns-clause-typed : goal.returns-clause-typed
+returns-clause-typed g c =
+    answers_well_typed c.typed_programs_are_well_typed.ensures c.linking_modules_run.ensures (g.S.Shelf.tells c.args.shelf.now) c.args.files.now
+    c.check_in_order.new.syms c.check_in_order.result (λ x passes. passes) c.check_in_order.ensures.ok

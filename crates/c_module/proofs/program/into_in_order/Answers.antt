@@ -28,7 +28,8 @@ returns-in-File-clause-err g c =
     let known = c.loop-file.invariant in
     let name = c.as_str-name.result.now in
     let is = subst (λ n. n ≡ get_or c.args.files.now c.loop-file.file-index n) (sym c.as_str-name.ensures) c.file-item.is in
-    let cause = subst (λ s. IsStop g.R.RoutineTaker.taken g.R.RoutineTaker.ready g.R.RoutineTaker.keeps g.R.RoutineTaker.refuses (c.loop-file.number + 1) c.loop-file.syms
+    let cause = subst (λ s. IsStop g.R.RoutineTaker.taken g.R.RoutineTaker.ready g.R.RoutineTaker.keeps g.R.RoutineTaker.refuses (c.loop-file.number + 1)
+    c.loop-file.syms
     (counts_of c.args.p.now) s (g.S.Shelf.tells c.loop-file.shelf name) (g.S.Shelf.faults c.loop-file.shelf name)
     (g.S.Shelf.faults c.take_module.new.shelf name) c.loop-file.taker c.take_module.new.taker c.take_module.new.syms) c.in-File.is c.in-Err.ensures.err in
     ends_here (g.S.Shelf.tells c.args.shelf.now) c.args.files.now c.loop-file.file-index name c.loop-file-test.true is
@@ -41,10 +42,12 @@ returns-in-Refused-clause-err g c =
     let known = c.loop-file.invariant in
     let name = c.as_str-name.result.now in
     let is = subst (λ n. n ≡ get_or c.args.files.now c.loop-file.file-index n) (sym c.as_str-name.ensures) c.file-item.is in
-    let refused = subst (λ s. IsStop g.R.RoutineTaker.taken g.R.RoutineTaker.ready g.R.RoutineTaker.keeps g.R.RoutineTaker.refuses (c.loop-file.number + 1) c.loop-file.syms
+    let refused = subst (λ s. IsStop g.R.RoutineTaker.taken g.R.RoutineTaker.ready g.R.RoutineTaker.keeps g.R.RoutineTaker.refuses (c.loop-file.number + 1)
+    c.loop-file.syms
     (counts_of c.args.p.now) s (g.S.Shelf.tells c.loop-file.shelf name) (g.S.Shelf.faults c.loop-file.shelf name)
     (g.S.Shelf.faults c.take_module.new.shelf name) c.loop-file.taker c.take_module.new.taker c.take_module.new.syms) c.in-Refused.is c.in-Err.ensures.err in
-    refused_here g.R.RoutineTaker.taken g.R.RoutineTaker.ready g.R.RoutineTaker.keeps g.R.RoutineTaker.refuses c.typed_modules_fit.ensures c.typed_programs_are_whole.ensures
+    refused_here g.R.RoutineTaker.taken g.R.RoutineTaker.ready g.R.RoutineTaker.keeps g.R.RoutineTaker.refuses c.typed_modules_fit.ensures
+    c.typed_programs_are_whole.ensures
     (counts_of c.args.p.now) (g.S.Shelf.tells c.args.shelf.now) c.args.files.now c.loop-file.file-index name c.loop-file-test.true is
     c.loop-file.syms c.take_module.new.syms (c.loop-file.number + 1) (g.S.Shelf.tells c.loop-file.shelf name) c.args.taker.now c.loop-file.taker
     c.take_module.new.taker known.lowered (omega (arith, known.number)) (known.same name) known.kept refused

@@ -1,6 +1,7 @@
 use Rattle.profile.specs.Counts.{counts_of}
 use Rattle.c_module.proofs.Going.{refuses}
 use Rattle.c_module.proofs.Taken.{reads_all, wants_or_refuses}
+use Rattle.c_module.proofs.Typings.{answers_well_typed}
 use Rattle.c_module.proofs.program.lowered_into.Goals as goal
 
 pub returns-clause-complete : goal.returns-clause-complete
@@ -20,3 +21,9 @@ returns-clause-reads g c = λ quiet.
     reads_all g.R.RoutineTaker.taken g.R.RoutineTaker.ready g.R.RoutineTaker.keeps g.R.RoutineTaker.refuses (counts_of c.args.p.now)
     (g.S.Shelf.tells c.args.shelf.now) (g.S.Shelf.faults c.args.shelf.now) (g.S.Shelf.faults c.into_in_order.new.shelf) c.args.files.now
     c.args.taker.now c.into_in_order.new.taker c.into_in_order.new.syms c.into_in_order.result c.into_in_order.ensures.err quiet
+
+pub returns-clause-typed : goal.returns-clause-typed
+returns-clause-typed g c =
+    answers_well_typed c.typed_programs_are_well_typed.ensures c.linking_modules_run.ensures (g.S.Shelf.tells c.args.shelf.now) c.args.files.now
+    c.into_in_order.new.syms c.into_in_order.result
+    (λ x is. record { modules = is.modules; ts = is.ts; accepted = is.accepted }) c.into_in_order.ensures.ok

@@ -1,4 +1,5 @@
 use Rattle.c_module.proofs.Going.{reads, refuses, wants}
+use Rattle.c_module.proofs.Typings.{answers_well_typed}
 use Rattle.c_module.proofs.program.lowered_program.Goals as goal
 
 pub returns-clause-complete : goal.returns-clause-complete
@@ -16,3 +17,9 @@ pub returns-clause-reads : goal.returns-clause-reads
 returns-clause-reads g c = λ quiet.
     reads (g.S.Shelf.tells c.args.shelf.now) (g.S.Shelf.faults c.args.shelf.now) (g.S.Shelf.faults c.program_in_order.new.shelf) c.args.files.now
     c.program_in_order.result c.program_in_order.new.syms c.program_in_order.ensures.err quiet
+
+pub returns-clause-typed : goal.returns-clause-typed
+returns-clause-typed g c =
+    answers_well_typed c.typed_programs_are_well_typed.ensures c.linking_modules_run.ensures (g.S.Shelf.tells c.args.shelf.now) c.args.files.now
+    c.program_in_order.new.syms c.program_in_order.result
+    (λ x is. record { modules = is.modules; ts = is.ts; accepted = is.accepted }) c.program_in_order.ensures.ok

@@ -3,4 +3,5 @@ use Rattle.c_types.specs.Specifiers as specs
 use Rattle.c_types.proofs.specifiers.words.Given as goal
 
 abbrev pub invariant-loop-part : goal.invariant-loop-part
-invariant-loop-part l = (l.n + specs.how_many (specs.is_word l.word) (drop l.part-index l.parts) ≡ specs.how_many (specs.is_word l.word) l.parts) × (l.n ≤ l.part-index)
+invariant-loop-part l = (l.n + specs.how_many (specs.is_word l.word) (drop l.part-index l.parts) ≡ specs.how_many (specs.is_word l.word) l.parts) ×
+    (l.n ≤ l.part-index)

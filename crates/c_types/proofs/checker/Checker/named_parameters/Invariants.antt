@@ -9,5 +9,6 @@ abbrev pub invariant-loop-ty : goal.invariant-loop-ty
 invariant-loop-ty l = record {
   can : (goal.iterator-loop-ty).can_next l.ty-iterator;
   ends : (goal.iterator-loop-ty).is_finite l.ty-iterator;
-  so_far : before l.named.items (named_parameters (iter_rest (zip_first l.ty-iterator)) (iter_rest (zip_second l.ty-iterator)) l.self) ≡ named_parameters l.types l.ps l.self;
+  so_far : before l.named.items (named_parameters (iter_rest (zip_first l.ty-iterator)) (iter_rest (zip_second l.ty-iterator)) l.self) ≡ named_parameters
+      l.types l.ps l.self;
 }

@@ -13,7 +13,7 @@ use crate::checker::{Checker, broken};
 use crate::constant::{
     Constant, ConstantValue, Evaluated, binary_value, is_signed, logical_value, unary_value,
 };
-use crate::conversion::{Operator, Target, Typed, Valued, common, result_type, sorted, unary_type};
+use crate::conversion::{Operator, Target, Typed, Valued, common, left_type, sorted, unary_type};
 use crate::fault::{TypeFault, TypeKind};
 use crate::nodes;
 use c_tree::{Identifier, UnaryOp};
@@ -226,7 +226,7 @@ pub(crate) fn constant_binary(
             value: logical_value(op, a.value, b.value),
         },
         Operator::Working(op) => Constant {
-            ty: Some(result_type(op, a.ty, b.ty)),
+            ty: Some(op.result_type(left_type(op, a.ty, b.ty))),
             value: binary_value(line, op, a, b),
         },
     }
