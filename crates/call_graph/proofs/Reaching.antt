@@ -1,6 +1,8 @@
 -- Marks that spread along calls are those of what is reached.
-use Rattle.std.proofs.Common.{◌≡◌, ℕ, zero, suc, ◌+◌, ◌<◌, ◌≤◌, ◌⊎◌, List, [], ◌∷◌, ◌++◌, get_or, set, take, drop, length, map, Bool, true, false, refl, ap, subst, sym, ◌∙◌, arith, inl, inr, eq-eqb, eqb-true, ne_eqb, length-set, get_or-set_same, get_or-set_other, slice_get}
-use Rattle.std.specs.Prelude.{nat_eq, not, filter, ◌&&◌, ◌||◌, Some, replicate, if◌then◌else◌}
+use Rattle.std.proofs.Common.{◌≡◌, ℕ, zero, suc, ◌+◌, ◌<◌, ◌≤◌, ◌⊎◌, List, [], ◌∷◌, ◌++◌, get_or, set, take, drop, length, map, Bool, true, false, refl}
+use Rattle.std.proofs.Common.{ap, subst, sym, ◌∙◌, arith, inl, inr, Result, Ok, Err, eq-eqb, eqb-true, ne_eqb, length-set, get_or-set_same}
+use Rattle.std.proofs.Common.{get_or-set_other, slice_get}
+use Rattle.std.specs.Prelude.{nat_eq, not, filter, ◌&&◌, ◌||◌, IfOk, Some, replicate, if◌then◌else◌}
 use Rattle.std.specs.List.{AllByRecursion}
 use Rattle.std.proofs.lemmas.Bool.{cases_eq, cases_lt}
 use Rattle.std.proofs.lemmas.List.{set_past, length_push, get_or_push, get_or_append_left, get_or_past, get_or_default, length-replicate}
@@ -451,6 +453,32 @@ marked_are T (x ∷ xs) [] size at = absurd (omega arith)
 marked_are T (x ∷ xs) (m ∷ ms) size at =
     ap (λ (k : Bool). if k then x.pid ∷ marked_pids ms xs else marked_pids ms xs) (at 0 x (omega arith))
     ∙ ap (λ (ps : List ℕ). if T x.pid then x.pid ∷ ps else ps) (marked_are T xs ms (omega arith) (λ i d lt. at (suc i) d (omega arith)))
+
+-- their PIDs rise where those of the summaries do
+below_rises : (b n : ℕ) (ps : List ℕ) → b < n → IsRisingFrom (λ p. p) n ps → IsRisingFrom (λ p. p) b ps
+below_rises b n [] lt h = tt
+below_rises b n (p ∷ ps) lt h = let next = h.0 in (omega arith, h.1)
+
+marked_above : (b : ℕ) (ms : List Bool) (xs : List Summary) → IsRisingFrom pid_of b xs → IsRisingFrom (λ p. p) b (marked_pids ms xs)
+marked_above b [] xs h = tt
+marked_above b (m ∷ ms) [] h = tt
+marked_above b (true ∷ ms) (x ∷ xs) h = (h.0, marked_above x.pid ms xs h.1)
+marked_above b (false ∷ ms) (x ∷ xs) h = below_rises b x.pid (marked_pids ms xs) h.0 (marked_above x.pid ms xs h.1)
+
+rises_above : (b : ℕ) (ps : List ℕ) → IsRisingFrom (λ p. p) b ps → IsRising (λ p. p) ps
+rises_above b [] h = tt
+rises_above b (p ∷ ps) h = h.1
+
+marked_rise : (ms : List Bool) (xs : List Summary) → IsRising pid_of xs → IsRising (λ p. p) (marked_pids ms xs)
+marked_rise [] xs h = tt
+marked_rise (m ∷ ms) [] h = tt
+marked_rise (true ∷ ms) (x ∷ xs) h = marked_above x.pid ms xs h
+marked_rise (false ∷ ms) (x ∷ xs) h = rises_above x.pid (marked_pids ms xs) (marked_above x.pid ms xs h)
+
+pub marked_answer : {X E : Type 0} (items : X → List ℕ) (ms : List Bool) (xs : List Summary) (r : Result X E) → IsRising pid_of xs
+    → IfOk r (λ v. items v ≡ marked_pids ms xs) → IfOk r (λ v. IsRising (λ p. p) (items v))
+marked_answer items ms xs (Ok v) h e = subst (IsRising (λ p. p)) (sym e) (marked_rise ms xs h)
+marked_answer items ms xs (Err e) h k = tt
 
 turned : (k : Bool) (p : ℕ) (ps : List ℕ) → (if k then ps else p ∷ ps) ≡ (if not k then p ∷ ps else ps)
 turned true p ps = refl

@@ -12,7 +12,8 @@ impl CallGraph {
     /// The PIDs of the routines that calls from one reach, itself too, in rising order. It takes time in proportion to
     /// the routines, and a search by halves for each site. The only error is want of memory.
     pub fn reachable(&self, alloc: Global, from: u32) -> Result<Vec<u32>, AllocError>
-        ensures { IfOk result (λ v. v.items ≡ reachable self.now from) }
+        ensures pids { IfOk result (λ v. v.items ≡ reachable self.now from) }
+        ensures rising { IfOk result (λ v. IsRising (λ pid. pid) v.items) }
     {
         let marks = reach(alloc, self.routines.as_slice(), from)?;
         pids_of_marked(alloc, self.routines.as_slice(), marks.as_slice())

@@ -1,5 +1,6 @@
 //! What the plan knows of a routine.
 ghost use Rattle.std.specs.Prelude.{◌≡◌, ◌<◌, ◌≤◌, ◌^◌, IfOk, length, sum};
+ghost use Rattle.il_core.specs.Limits.{max_size};
 ghost use Rattle.il_laws.specs.Facts.{looped};
 ghost use Rattle.il_laws.specs.Known.{site_constants};
 ghost use Rattle.il_laws.specs.Splice.{value_returns};
@@ -88,7 +89,7 @@ pub fn summarise(
 
 /// How many returns of blocks give a value.
 fn value_returns(blocks: &[Block]) -> u32
-    requires { length blocks.now ≤ 2 ^ 16 }
+    requires { length blocks.now ≤ max_size }
     ensures { result ≡ value_returns blocks.now }
 {
     let mut count = 0;

@@ -39,7 +39,8 @@ end_named n m bs now b d reads size lt rest read same =
 
 pub fold_next : (n k : ℕ) (bs : List Block) (b : ℕ) (d y : Block) (f f1 f2 : Flow) (s t u : List (Option ℕ)) (now : List Block) → AreNamed n bs → EndsRead n bs
     → b < length now → d ≡ get_or now b d → Going folded_block n k bs b f s now → length t ≡ length s → Starts f b t → Entered f f1 b
-    → y ≡ record { instrs = (get_or now b d).instrs; end = folded (facts_in u) (get_or now b d).end } → Has (length t) u (through (get_or now b d).instrs (facts_in t))
+    → y ≡ record { instrs = (get_or now b d).instrs; end = folded (facts_in u) (get_or now b d).end }
+    → Has (length t) u (through (get_or now b d).instrs (facts_in t))
     → Left (get_or now b d).end u f1 f2 → Going folded_block n k bs (b + 1) f2 u (set now b y)
 fold_next n k bs b d y f f1 f2 s t u now named reads lt read g same starts e is has left =
     let c = g.changed in

@@ -1,5 +1,6 @@
 -- Blocks merged in place do what merging them one by one does.
-use Rattle.std.proofs.Common.{◌≡◌, ℕ, zero, suc, ◌+◌, ◌-◌, ◌*◌, ◌^◌, ◌<◌, ◌≤◌, ◌⊎◌, List, [], ◌∷◌, get_or, set, drop, length, map, Bool, true, false, refl, ap, subst, sym, ◌∙◌, arith, inl, inr, eq-eqb, eqb-true, ne_eqb, slice_get}
+use Rattle.std.proofs.Common.{◌≡◌, ℕ, zero, suc, ◌+◌, ◌-◌, ◌*◌, ◌^◌, ◌<◌, ◌≤◌, ◌⊎◌, List, [], ◌∷◌, get_or, set, drop, length, map, Bool, true, false}
+use Rattle.std.proofs.Common.{refl, ap, subst, sym, ◌∙◌, arith, inl, inr, eq-eqb, eqb-true, ne_eqb, slice_get}
 use Rattle.std.specs.Prelude.{nat_eq, nat_le, ◌&&◌, Option, Some, None, option_map, replicate, if◌then◌else◌}
 use Rattle.std.proofs.lemmas.Bool.{cases_eq, cases_lt}
 use Rattle.std.proofs.lemmas.Bool.Decides.{nat_tests}
@@ -437,7 +438,8 @@ module _ (bs : List Block) (counts : List ℕ) (b : ℕ) (ms : List Bool) (now :
   step_left lt mb = let less = place_less ms b (length now) mb lt in let steps = h.steps in omega arith
 
   one_step : (x : Block) → b < length now → slice_get now b ≡ Some x → Marked ms b
-      → merge_from (h.left - 1) (merge_next (place_of ms b) K (g x) (placed (next_at counts now b x.end))) ≡ merge_from (length bs) (record { blocks = bs; at = 0 })
+      → merge_from (h.left - 1) (merge_next (place_of ms b) K (g x) (placed (next_at counts now b x.end))) ≡ merge_from (length bs)
+      (record { blocks = bs; at = 0 })
   one_step x lt e mb =
       ap (merge_from (h.left - 1)) (sym (step_same x e mb))
       ∙ ap (λ (n : ℕ). merge_from n (record { blocks = K; at = place_of ms b })) (sym (step_left lt mb)) ∙ h.whole

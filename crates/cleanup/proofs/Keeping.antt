@@ -1,6 +1,7 @@
 -- Marked blocks kept and renumbered.
 use Rattle.std.proofs.lemmas.List.Sums.{sum_by-cons}
-use Rattle.std.proofs.Common.{◌≡◌, ℕ, ◌^◌, zero, suc, ◌+◌, ◌<◌, ◌≤◌, List, [], ◌∷◌, ◌++◌, get_or, set, drop, length, map, Bool, true, false, refl, ap, subst, sym, ◌∙◌, arith, inl, inr, append_assoc, length-set, slice_get}
+use Rattle.std.proofs.Common.{◌≡◌, ℕ, ◌^◌, zero, suc, ◌+◌, ◌<◌, ◌≤◌, List, [], ◌∷◌, ◌++◌, get_or, set, drop, length, map, Bool, true, false, refl, ap}
+use Rattle.std.proofs.Common.{subst, sym, ◌∙◌, arith, inl, inr, append_assoc, length-set, slice_get}
 use Rattle.std.specs.Prelude.{Some, if◌then◌else◌}
 use Rattle.std.specs.List.{AllByRecursion}
 use Rattle.std.proofs.lemmas.List.{drop_all, drop-set-lt, append-nil, get_or_push, get_or_append_left, length_push, ext_get_or}
@@ -96,7 +97,8 @@ ends_at : (n : ℕ) (bs : List Block) (b : ℕ) (x : Block) → EndsName n bs �
 ends_at n bs b x named e =
     let all : EndsName n (x ∷ drop (b + 1) bs) = subst (EndsName n) e (all_drop (λ (y : Block). NamesBlocks n y.end) b bs named) in all.0
 
-module _ (ms : List Bool) (bs : List Block) (b : ℕ) (d : Block) (now out : List Block) (ps : List ℕ) (size : length ms ≡ length bs) (named : EndsName (length bs) bs) (lt : b < length now) (read : d ≡ get_or now b d) (k : Keeping ms bs b now out) where
+module _ (ms : List Bool) (bs : List Block) (b : ℕ) (d : Block) (now out : List Block) (ps : List ℕ) (size : length ms ≡ length bs)
+    (named : EndsName (length bs) bs) (lt : b < length now) (read : d ≡ get_or now b d) (k : Keeping ms bs b now out) where
   abbrev x : Block
   x = get_or now b d
 
@@ -229,7 +231,8 @@ few_as r items was ms less l same is =
 pub size_as : (items was now : List Block) (ms : List Bool) → AreLeast was ms → was ≡ items → now ≡ items → length ms ≡ length now
 size_as items was now ms l same same1 = l.size ∙ ap (λ (bs : List Block). length bs) (same ∙ sym same1)
 
-pub dropped_is : (r : RoutineParts) (items was now out result : List Block) (ms : List Bool) → IsValidRoutine r → was ≡ items → items ≡ r.blocks → AreLeast was ms
+pub dropped_is : (r : RoutineParts) (items was now out result : List Block) (ms : List Bool) → IsValidRoutine r → was ≡ items → items ≡ r.blocks
+    → AreLeast was ms
     → now ≡ items → out ≡ renumbered ms now → result ≡ out → record r { blocks = result } ≡ drop_unreachable r
 dropped_is r items was now out result ms h same is l same1 made last =
     let marks : ms ≡ reachable r.blocks = least_is h.0 r ms h.1 (subst (λ (bs : List Block). AreLeast bs ms) (same ∙ is) l) in

@@ -1,5 +1,6 @@
 -- Marks that spread from the first block along edges.
-use Rattle.std.proofs.Common.{◌≡◌, ℕ, zero, suc, ◌+◌, ◌<◌, ◌≤◌, List, [], ◌∷◌, ◌++◌, get_or, set, take, length, Bool, true, false, refl, ap, subst, sym, ◌∙◌, arith, inl, inr, slice_get, length-set, get_or-set_same, get_or-set_other}
+use Rattle.std.proofs.Common.{◌≡◌, ℕ, zero, suc, ◌+◌, ◌<◌, ◌≤◌, List, [], ◌∷◌, ◌++◌, get_or, set, take, length, Bool, true, false, refl, ap, subst, sym}
+use Rattle.std.proofs.Common.{◌∙◌, arith, inl, inr, slice_get, length-set, get_or-set_same, get_or-set_other}
 use Rattle.std.specs.Prelude.{Some, None, if◌then◌else◌, replicate}
 use Rattle.std.specs.List.{AllByRecursion}
 use Rattle.std.proofs.lemmas.Bool.{cases_eq, cases_lt, false≢true}
@@ -86,7 +87,8 @@ module _ (bs : List Block) (ms : List Bool) (fs : List ℕ) (t : ℕ) (f : Found
   pub found_one : Found bs (set ms t true) (noted t ms fs)
   found_one = found_if (get_or ms t false) refl
 
-found_all : (bs : List Block) (ts : List ℕ) (ms : List Bool) (fs : List ℕ) → Found bs ms fs → AllByRecursion (λ t. t < length ms) ts → AllByRecursion (Belongs bs) ts
+found_all : (bs : List Block) (ts : List ℕ) (ms : List Bool) (fs : List ℕ) → Found bs ms fs → AllByRecursion (λ t. t < length ms) ts
+    → AllByRecursion (Belongs bs) ts
     → Found bs (seen ts ms) (noted_all ts ms fs)
 found_all bs [] ms fs f lt h = f
 found_all bs (t ∷ ts) ms fs f lt h =
@@ -166,7 +168,8 @@ module _ (bs : List Block) (next : ℕ) (ms : List Bool) (fs : List ℕ) (named 
     spread_more =
         let ts = targets y.end in
         let grows = noted_keeps ts ms fs in
-        let belongs = all_belong bs ts (λ set closed. closed.goes (get_or fs next 0) y is (s.found.least set closed (get_or fs next 0) (s.found.real next lt))) in
+        let belongs = all_belong bs ts (λ set closed. closed.goes (get_or fs next 0) y is (s.found.least set closed (get_or fs next 0) (s.found.real next lt)))
+        in
         record {
           found = found_all bs ts ms fs s.found next_names belongs;
           behind = omega (arith, grows.0);
@@ -178,7 +181,8 @@ module _ (bs : List Block) (next : ℕ) (ms : List Bool) (fs : List ℕ) (named 
                 (s.closed j before z (ap (λ (t : ℕ). slice_get bs t) (sym (grows.1 j within)) ∙ e)))
             | inr ge ↦ (
                 let here : j ≡ next = omega arith in
-                let same : y ≡ z = same_Some y z (sym is ∙ ap (λ (t : ℕ). slice_get bs t) (sym (grows.1 next lt) ∙ ap (λ (i : ℕ). get_or (noted_all ts ms fs) i 0) (sym here)) ∙ e) in
+                let same : y ≡ z = same_Some y z (sym is ∙ ap (λ (t : ℕ). slice_get bs t)
+                (sym (grows.1 next lt) ∙ ap (λ (i : ℕ). get_or (noted_all ts ms fs) i 0) (sym here)) ∙ e) in
                 subst (λ (w : Block). AllByRecursion (λ u. get_or (seen ts ms) u false ≡ true) (targets w.end)) same (seen_has ts ms next_names))
           ];
         }
@@ -238,7 +242,8 @@ init_as bs ms now rest fs gs len some none empty is noted_is size =
     subst (λ (ns : List Bool). Spread bs 0 ns gs) (sym marks)
     (subst (λ (hs : List ℕ). Spread bs 0 (set (replicate (length bs) false) 0 true) hs) (sym found) (spread_first bs some))
 
-module _ (bs : List Block) (next : ℕ) (ms : List Bool) (fs : List ℕ) (named : EndsName (length bs) bs) (s : Spread bs next ms fs) (lt : next < length fs) (b : ℕ) (read : b ≡ get_or fs next b) where
+module _ (bs : List Block) (next : ℕ) (ms : List Bool) (fs : List ℕ) (named : EndsName (length bs) bs) (s : Spread bs next ms fs) (lt : next < length fs)
+    (b : ℕ) (read : b ≡ get_or fs next b) where
   same_block : b ≡ get_or fs next 0
   same_block = get_or_read fs next b lt read 0
 

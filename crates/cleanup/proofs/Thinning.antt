@@ -1,10 +1,12 @@
 -- Dead writes dropped, from the last instruction to the first, and from the last block to the first.
-use Rattle.std.proofs.Common.{◌≡◌, ℕ, zero, suc, ◌+◌, ◌-◌, ◌*◌, ◌^◌, ◌<◌, ◌≤◌, List, [], ◌∷◌, ◌++◌, get_or, set, take, drop, length, Bool, true, false, refl, ap, subst, sym, ◌∙◌, arith, inl, inr, append_assoc, slice_get}
+use Rattle.std.proofs.Common.{◌≡◌, ℕ, zero, suc, ◌+◌, ◌-◌, ◌*◌, ◌^◌, ◌<◌, ◌≤◌, List, [], ◌∷◌, ◌++◌, get_or, set, take, drop, length, Bool, true, false}
+use Rattle.std.proofs.Common.{refl, ap, subst, sym, ◌∙◌, arith, inl, inr, append_assoc, slice_get}
 use Rattle.std.specs.Prelude.{reverse, not, nat_eq, ◌||◌, Option, Some, None, if◌then◌else◌}
 use Rattle.std.specs.List.{AllByRecursion}
 use Rattle.std.proofs.Math.Nat.{mul-le-mul_right, mul_comm}
 use Rattle.std.proofs.lemmas.Bool.{cases_eq, cases_lt}
-use Rattle.std.proofs.lemmas.List.{reverse-append, drop-take, set_at, length-take-le, take_more, drop_more, get_or_append_left, get_or-take, append-nil, take_all, drop_all, get_or_default, take_at}
+use Rattle.std.proofs.lemmas.List.{reverse-append, drop-take, set_at, length-take-le, take_more, drop_more, get_or_append_left, get_or-take, append-nil}
+use Rattle.std.proofs.lemmas.List.{take_all, drop_all, get_or_default, take_at}
 use Rattle.std.proofs.lemmas.Slice.{take-put_mid_below, drop-put_mid}
 use borrow.Rule.Slice.PartMut.{put_mid}
 use mathlib.Core.Path.{fun_ext}

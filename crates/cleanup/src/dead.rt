@@ -1,6 +1,7 @@
 //! Writes to registers that aren't live dropped.
-ghost use Rattle.std.specs.Prelude.{◌≡◌, ℕ, ◌*◌, ◌^◌, ◌≤◌, [], length, IfOk, OnOk};
+ghost use Rattle.std.specs.Prelude.{◌≡◌, ℕ, ◌*◌, ◌≤◌, [], length, IfOk, OnOk};
 ghost use Rattle.std.specs.List.{AllByRecursion};
+ghost use Rattle.il_core.specs.Limits.{max_registers, max_size};
 ghost use Rattle.il_laws.specs.Live.{drop_dead_writes, alive, alive_blocks, live_at, live_through, read_in};
 ghost use Rattle.const_prop.specs.Tables.{AreNamed, NamesRegisters, IsValidRoutine};
 ghost use Rattle.cleanup.specs.Bits.{has, GoForward};
@@ -54,8 +55,8 @@ pub fn drop_dead_writes_owned(alloc: Global, r: Routine) -> Result<Routine, Allo
 
 /// Drops the dead writes of blocks.
 fn drop_dead(alloc: Global, regs: u32, blocks: &mut [Block]) -> Result<(), AllocError>
-    requires regs { regs ≤ 2 ^ 15 }
-    requires few { length blocks.old ≤ 2 ^ 16 }
+    requires regs { regs ≤ max_registers }
+    requires few { length blocks.old ≤ max_size }
     requires named { AreNamed regs blocks.old }
     requires ends { EndsRead regs blocks.old }
     requires forward { GoForward blocks.old }

@@ -1,5 +1,6 @@
 //! Blocks merged with the only ones that go to them.
 ghost use Rattle.std.specs.Prelude.{◌≡◌, ℕ, ◌+◌, ◌^◌, ◌<◌, ◌≤◌, ◌++◌, length, replicate, true, false, IfOk, OnOk, slice_get, slice_set, slice_index};
+ghost use Rattle.il_core.specs.Limits.{max_size};
 ghost use Rattle.il_laws.specs.Edges.{edges};
 ghost use Rattle.il_laws.specs.Merge.{may_end, merge_blocks, merge_from};
 ghost use Rattle.il_laws.specs.Renumber.{renumbered};
@@ -55,7 +56,7 @@ pub fn merge_blocks_owned(alloc: Global, r: Routine) -> Result<Routine, AllocErr
 
 /// The merged blocks. What is handed in is left without use.
 fn merge(alloc: Global, blocks: &mut [Block]) -> Result<Vec<Block>, AllocError>
-    requires few { length blocks.old ≤ 2 ^ 16 }
+    requires few { length blocks.old ≤ max_size }
     requires inside { EndsName (length blocks.old) blocks.old }
     requires forward { GoForward blocks.old }
     ensures { IfOk result (λ v. v.items ≡ merge_from (length blocks.old) (record { blocks = blocks.old; at = 0 })) }
@@ -68,7 +69,7 @@ fn merge(alloc: Global, blocks: &mut [Block]) -> Result<Vec<Block>, AllocError>
 
 /// How many edges go to each block.
 fn count_edges(alloc: Global, blocks: &[Block]) -> Result<Vec<u32>, AllocError>
-    requires few { length blocks.now ≤ 2 ^ 16 }
+    requires few { length blocks.now ≤ max_size }
     requires inside { EndsName (length blocks.now) blocks.now }
     ensures { IfOk result (λ v. AreCounts blocks.now v.items) }
 {

@@ -1,5 +1,6 @@
 //! Blocks that can't be reached dropped, and the others renumbered.
-ghost use Rattle.std.specs.Prelude.{◌≡◌, ◌<◌, ◌≤◌, ◌^◌, ◌++◌, [], ◌∷◌, length, IfOk, OnOk, slice_index, if◌then◌else◌};
+ghost use Rattle.std.specs.Prelude.{◌≡◌, ◌<◌, ◌≤◌, ◌++◌, [], ◌∷◌, length, IfOk, OnOk, slice_index, if◌then◌else◌};
+ghost use Rattle.il_core.specs.Limits.{max_size};
 ghost use Rattle.il_core.specs.Operands.{retargeted, retargeted_block};
 ghost use Rattle.il_laws.specs.Edges.{one_if};
 ghost use Rattle.il_laws.specs.Renumber.{renumbered};
@@ -60,7 +61,7 @@ pub(crate) fn keep_marked(
     marks: &[bool],
 ) -> Result<Vec<Block>, AllocError>
     requires size { length marks.now ≡ length blocks.old }
-    requires few { length marks.now ≤ 2 ^ 16 }
+    requires few { length marks.now ≤ max_size }
     requires inside { EndsName (length blocks.old) blocks.old }
     ensures { IfOk result (λ v. v.items ≡ renumbered marks.now blocks.old) }
 {
@@ -108,7 +109,7 @@ fn retargeted(places: &[u32], end: End) -> End
 
 /// By block, how many marked ones stand before it.
 fn places(alloc: Global, marks: &[bool]) -> Result<Vec<u32>, AllocError>
-    requires { length marks.now ≤ 2 ^ 16 }
+    requires { length marks.now ≤ max_size }
     ensures { IfOk result (λ v. ArePlaces marks.now v.items) }
 {
     let mut places = Vec::with_capacity(alloc, marks.len())?;

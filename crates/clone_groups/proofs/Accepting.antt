@@ -1,5 +1,6 @@
 -- Ranked groups accepted one by one.
-use Rattle.std.proofs.Common.{◌≡◌, ℕ, ◌+◌, ◌<◌, ◌≤◌, List, [], ◌∷◌, ◌++◌, map, Bool, true, false, Option, Some, None, refl, ap, ap₂, sym, subst, ◌∙◌, arith, length, append_assoc, suc, ltb-true}
+use Rattle.std.proofs.Common.{◌≡◌, ℕ, ◌+◌, ◌<◌, ◌≤◌, List, [], ◌∷◌, ◌++◌, map, Bool, true, false, Option, Some, None, refl, ap, ap₂, sym, subst, ◌∙◌}
+use Rattle.std.proofs.Common.{arith, length, append_assoc, suc, ltb-true}
 use Rattle.std.specs.Prelude.{◌&&◌, ◌^◌, if◌then◌else◌, nat_le, nat_lt}
 use Rattle.std.specs.List.{AllByRecursion}
 use Rattle.std.proofs.lemmas.Bool.{leb-true}
@@ -141,7 +142,8 @@ going_on ss limit start b new ys c done more o g is added left = record {
       ap₂ {A = List Group} {B = Spent} {C = List Group} (λ gs s. gs ++ map accepted (taken_by ss limit s cs)) added left
       ∙ append_assoc done (map accepted d.taken) (map accepted (taken_by ss limit d.spent cs))
       ∙ ap (λ (gs : List Group). done ++ gs) (sym (map-append accepted d.taken (taken_by ss limit d.spent cs)))
-      ∙ ap (λ (q : Option Seen). done ++ map accepted ((decided limit (group_of c) b c.old q).taken ++ taken_by ss limit (decided limit (group_of c) b c.old q).spent cs)) is
+      ∙ ap (λ (q : Option Seen). done ++ map accepted ((decided limit (group_of c) b c.old q).taken ++ taken_by ss limit
+      (decided limit (group_of c) b c.old q).spent cs)) is
       ∙ g.rest (c ∷ cs)
       ∙ ap (λ (l : List Candidate). map accepted (taken_by ss limit start l)) (sym (append_assoc ys (c ∷ []) cs)));
 }
@@ -156,6 +158,7 @@ pub taken_are : (ss : List Seen) (rows : List Row) (limit : ℕ) (b : Spent) (cs
     → taken_by ss limit b cs ≡ taken ss rows limit b (map group_of cs)
 taken_are ss rows limit b [] h = refl
 taken_are ss rows limit b (c ∷ cs) h =
-    ap (λ (o : Option ℕ). (decided limit (group_of c) b o (summary_at ss c.key.callee)).taken ++ taken_by ss limit (decided limit (group_of c) b o (summary_at ss c.key.callee)).spent cs) h.0
+    ap (λ (o : Option ℕ). (decided limit (group_of c) b o (summary_at ss c.key.callee)).taken ++ taken_by ss limit
+    (decided limit (group_of c) b o (summary_at ss c.key.callee)).spent cs) h.0
     ∙ ap (λ (ts : List Taken). (decided limit (group_of c) b (clone_in rows c.key.callee (group_of c).fixed) (summary_at ss c.key.callee)).taken ++ ts)
     (taken_are ss rows limit (decided limit (group_of c) b (clone_in rows c.key.callee (group_of c).fixed) (summary_at ss c.key.callee)).spent cs h.1)

@@ -1,5 +1,6 @@
 -- A clone by its parts: its blocks, and its limits.
-use Rattle.std.proofs.Common.{◌≡◌, ℕ, suc, ◌+◌, ◌<◌, ◌≤◌, List, [], ◌∷◌, map, Bool, true, false, refl, ap, subst, sym, ◌∙◌, arith, length, leb-true, le-leb, get_or, drop}
+use Rattle.std.proofs.Common.{◌≡◌, ℕ, suc, ◌+◌, ◌<◌, ◌≤◌, List, [], ◌∷◌, map, Bool, true, false, refl, ap, subst, sym, ◌∙◌, arith, length, leb-true}
+use Rattle.std.proofs.Common.{le-leb, get_or, drop}
 use Rattle.std.specs.Prelude.{if◌then◌else◌, nat_le}
 use Rattle.std.specs.List.{AllByRecursion}
 use Rattle.list_laws.proofs.Elements.{all_drop, drop_read}
@@ -93,9 +94,11 @@ module _ (r : RoutineParts) (pid : ℕ) (xs : List (ℕ × Word)) (v : IsValidRo
   size_is =
       clone_size r pid (fixed_of xs) v.1.some_block ∙ ap (λ (n : ℕ). size r + n + (if looped r.blocks 0 then 1 else 0)) (same_count xs)
 
-  pub too_many : (k : Bool) → k ≡ looped r.blocks 0 → nat_le (size r + length xs + (if k then 1 else 0)) max_size ≡ false → IsWithinLimits (make_clone r pid (fixed_of xs)) → ⊥
+  pub too_many : (k : Bool) → k ≡ looped r.blocks 0 → nat_le (size r + length xs + (if k then 1 else 0)) max_size ≡ false
+      → IsWithinLimits (make_clone r pid (fixed_of xs)) → ⊥
   too_many k same past w =
-      let test : nat_le (size r + length xs + (if looped r.blocks 0 then 1 else 0)) max_size ≡ true = le-leb _ max_size (subst (λ (n : ℕ). n ≤ max_size) size_is w.size) in
+      let test : nat_le (size r + length xs + (if looped r.blocks 0 then 1 else 0)) max_size ≡ true = le-leb _ max_size
+      (subst (λ (n : ℕ). n ≤ max_size) size_is w.size) in
       let e : nat_le (size r + length xs + (if k then 1 else 0)) max_size ≡ true
       = ap (λ (b : Bool). nat_le (size r + length xs + (if b then 1 else 0)) max_size) same ∙ test in
       let bad : true ≡ false = sym e ∙ past in

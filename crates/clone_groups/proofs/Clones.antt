@@ -1,5 +1,6 @@
 -- Clones of a table, at the places of the groups with their keys.
-use Rattle.std.proofs.Common.{◌≡◌, ℕ, zero, suc, ◌+◌, ◌<◌, List, [], ◌∷◌, ◌++◌, map, Bool, true, false, Option, Some, None, refl, ap, ap₂, sym, ◌∙◌, arith, length, nat_eq, not, position, replicate, set, get_or, take}
+use Rattle.std.proofs.Common.{◌≡◌, ℕ, zero, suc, ◌+◌, ◌<◌, List, [], ◌∷◌, ◌++◌, map, Bool, true, false, Option, Some, None, refl, ap, ap₂, sym, ◌∙◌}
+use Rattle.std.proofs.Common.{arith, length, nat_eq, not, position, replicate, set, get_or, take}
 use Rattle.std.specs.Prelude.{◌&&◌, if◌then◌else◌, cond, reverse}
 use Rattle.std.specs.Cmp.{IsEquivalence}
 use Rattle.std.specs.Cmp.Lexicographic.{pointwise}
@@ -107,4 +108,5 @@ no_clones (x ∷ es) (suc n) e = ap (λ (cs : List (Option ℕ)). None ∷ cs) (
 -- one row more
 pub rows_more : (rows : List Row) (i : ℕ) (row : Row) → i < length rows → row ≡ get_or rows i row → row ∷ reverse (take i rows) ≡ reverse (take (i + 1) rows)
 rows_more rows i row lt is =
-    sym (ap (λ (l : List Row). reverse l) (take_more rows i row lt ∙ ap (λ (r : Row). take i rows ++ r ∷ []) (sym is)) ∙ reverse-append (take i rows) (row ∷ []))
+    sym (ap (λ (l : List Row). reverse l) (take_more rows i row lt ∙ ap (λ (r : Row). take i rows ++ r ∷ []) (sym is)) ∙ reverse-append (take i rows)
+    (row ∷ []))

@@ -1,5 +1,6 @@
 -- A table that says what moves say, filled from the last one on.
-use Rattle.std.proofs.Common.{◌≡◌, ℕ, ◌<◌, List, [], ◌∷◌, ◌++◌, true, Option, Some, None, nat_eq, get_or, set, length, refl, ap, sym, ◌∙◌, arith, append_assoc, inl, inr, length-set}
+use Rattle.std.proofs.Common.{◌≡◌, ℕ, ◌<◌, List, [], ◌∷◌, ◌++◌, true, Option, Some, None, nat_eq, get_or, set, length, refl, ap, sym, ◌∙◌, arith}
+use Rattle.std.proofs.Common.{append_assoc, inl, inr, length-set}
 use Rattle.std.specs.Prelude.{nat_lt}
 use Rattle.std.specs.Option.{unwrap_or}
 use Rattle.std.proofs.lemmas.Bool.{cases_Bool, eqb-true, eqb-false, lt-ltb}

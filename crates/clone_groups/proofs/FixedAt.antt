@@ -1,5 +1,6 @@
 -- What is known at a site of what its callee reads, parameter by parameter.
-use Rattle.std.proofs.Common.{◌≡◌, ℕ, suc, ◌+◌, ◌<◌, ◌≤◌, List, [], ◌∷◌, ◌++◌, Bool, true, false, Option, Some, None, refl, ap, sym, ◌∙◌, arith, length, drop, get_or, append_assoc}
+use Rattle.std.proofs.Common.{◌≡◌, ℕ, suc, ◌+◌, ◌<◌, ◌≤◌, List, [], ◌∷◌, ◌++◌, Bool, true, false, Option, Some, None, refl, ap, sym, ◌∙◌, arith, length}
+use Rattle.std.proofs.Common.{drop, get_or, append_assoc}
 use Rattle.std.specs.Option.{option_map}
 use Rattle.std.proofs.lemmas.List.{append-nil, drop_all, get_or_default}
 use Rattle.hlo_num.specs.declared.word.Word.{Word}
@@ -24,7 +25,8 @@ word_of o = option_map (λ (w : Word). w.0) o
 module _ (reads : List Bool) (whole : List Fixed) (xs : List (ℕ × ℕ)) (p i : ℕ) (left : List (Option Word))
     (e : fixed_in xs ++ fixed_from p (drop i reads) (words_at left) ≡ whole) where
   pub one_fixed : (new : List (ℕ × ℕ)) (d : Bool) (w : Option Word) (rest : List (Option Word)) → i < length reads → left ≡ w ∷ rest
-      → fixed_in new ≡ fixed_in xs ++ fixed_at p (get_or reads i d) (word_of w) [] → fixed_in new ++ fixed_from (p + 1) (drop (i + 1) reads) (words_at rest) ≡ whole
+      → fixed_in new ≡ fixed_in xs ++ fixed_at p (get_or reads i d) (word_of w) []
+      → fixed_in new ++ fixed_from (p + 1) (drop (i + 1) reads) (words_at rest) ≡ whole
   one_fixed new d w rest lt front added =
       let b : Bool = get_or reads i d in
       let is : b ≡ get_or reads i b = get_or_default reads i d b lt in
@@ -44,4 +46,5 @@ module _ (reads : List Bool) (whole : List Fixed) (xs : List (ℕ × ℕ)) (p i 
 
   pub reads_end : length reads ≤ i → fixed_in xs ≡ whole
   reads_end past =
-      sym (append-nil (fixed_in xs)) ∙ ap (λ (l : List Fixed). fixed_in xs ++ l) (ap (λ (l : List Bool). fixed_from p l (words_at left)) (sym (drop_all i reads past))) ∙ e
+      sym (append-nil (fixed_in xs)) ∙ ap (λ (l : List Fixed). fixed_in xs ++ l)
+      (ap (λ (l : List Bool). fixed_from p l (words_at left)) (sym (drop_all i reads past))) ∙ e

@@ -1,5 +1,6 @@
 -- Sites joined to groups, the last one first.
-use Rattle.std.proofs.Common.{◌≡◌, ℕ, suc, ◌+◌, ◌<◌, ◌≤◌, List, [], ◌∷◌, ◌++◌, map, Bool, true, false, Option, Some, None, refl, ap, sym, subst, ◌∙◌, arith, length, append_assoc, Bor}
+use Rattle.std.proofs.Common.{◌≡◌, ℕ, suc, ◌+◌, ◌<◌, ◌≤◌, List, [], ◌∷◌, ◌++◌, map, Bool, true, false, Option, Some, None, refl, ap, sym, subst, ◌∙◌}
+use Rattle.std.proofs.Common.{arith, length, append_assoc, Bor}
 use Rattle.std.specs.Prelude.{◌&&◌, ◌==◌, not, if◌then◌else◌}
 use Rattle.std.specs.List.{AllByRecursion}
 use Rattle.std.specs.Option.{option_map}
@@ -93,7 +94,8 @@ module _ (ss : List Seen) (main : ℕ) where
     rest = ap (all_joined ss main (call_sites (map summary_of rs))) none ∙ grouped_is ss main (call_sites (map summary_of rs));
   }
 
-  pub few_sites : (rs left before : List Summary) (r : Summary) (now : List Group) → left ≡ before ++ r ∷ [] → LeftCallers rs left now → length r.sites ≤ max_size
+  pub few_sites : (rs left before : List Summary) (r : Summary) (now : List Group) → left ≡ before ++ r ∷ [] → LeftCallers rs left now
+      → length r.sites ≤ max_size
   few_sites rs left before r now e l =
       let all = parts before r (subst (λ (xs : List Summary). AllByRecursion IsSmall (map summary_of xs)) e l.small) in
       let few : length (map site_of r.sites) ≤ max_size = all.last.sites in
@@ -110,7 +112,8 @@ module _ (ss : List Seen) (main : ℕ) where
         ∙ ap (λ (xs : List Summary). all_joined ss main (call_sites (map summary_of xs)) now) (sym e) ∙ l.rest;
   }
 
-  pub no_callers : (rs left : List Summary) (now : List Group) → length left ≡ 0 → LeftCallers rs left now → now ≡ grouped ss main (call_sites (map summary_of rs))
+  pub no_callers : (rs left : List Summary) (now : List Group) → length left ≡ 0 → LeftCallers rs left now
+      → now ≡ grouped ss main (call_sites (map summary_of rs))
   no_callers rs left now none l =
       ap (λ (xs : List Summary). all_joined ss main (call_sites (map summary_of xs)) now) (sym (is_nothing left none)) ∙ l.rest
 
@@ -140,7 +143,8 @@ module _ (ss : List Seen) (main : ℕ) where
     and_no false b e = refl
 
     pub nothing_known : fixed_of ss x ≡ [] → gs ≡ all_joined ss main (x ∷ []) gs
-    nothing_known e = stays_if (may_move ss main x) (and_no (is_candidate main x) (not (is_empty (fixed_of ss x))) (ap (λ (l : List Fixed). not (is_empty l)) e))
+    nothing_known e = stays_if (may_move ss main x) (and_no (is_candidate main x) (not (is_empty (fixed_of ss x)))
+        (ap (λ (l : List Fixed). not (is_empty l)) e))
 
     pub fixed_is : (o : Option (Bor Summary)) (r : Bor Summary) → option_map (λ (b : Bor Summary). summary_of b.now) o ≡ summary_at ss s.callee → o ≡ Some r
         → fixed_from 0 r.now.reads (words_at s.known) ≡ fixed_of ss x

@@ -58,7 +58,8 @@ module _ (key : CloneKey) (caller number count : ℕ) (known : List (Option ℕ)
   entry_if e es o false true same found rest = absurd cc
   entry_if e es o false false same found rest = ap (λ (gs : List Group). group_in e ∷ gs) (rest found)
 
-  pub joined_entry : (es : Entries) (o : Option Joint) → lookup (same_key key) es ≡ o → groups_in (insert_entry same_key es key (more o)) ≡ joined x fixed (groups_in es)
+  pub joined_entry : (es : Entries) (o : Option Joint) → lookup (same_key key) es ≡ o
+      → groups_in (insert_entry same_key es key (more o)) ≡ joined x fixed (groups_in es)
   joined_entry [] o found =
       let none : count + 0 ≡ count = omega arith in
       ap (λ (j : Option Joint). group_in (key, more j) ∷ []) (sym found)

@@ -1,5 +1,6 @@
 -- Calls with other callees: what the table says is what the moves say, and the routine stays within the limits.
-use Rattle.std.proofs.Common.{◌≡◌, ℕ, ◌+◌, ◌<◌, ◌≤◌, List, [], ◌∷◌, ◌++◌, Bool, true, false, Option, nat_eq, get_or, drop, take, length, refl, ap, ap₂, ◌∙◌, arith}
+use Rattle.std.proofs.Common.{◌≡◌, ℕ, ◌+◌, ◌<◌, ◌≤◌, List, [], ◌∷◌, ◌++◌, Bool, true, false, Option, nat_eq, get_or, drop, take, length, refl, ap, ap₂}
+use Rattle.std.proofs.Common.{◌∙◌, arith}
 use Rattle.std.specs.Prelude.{if◌then◌else◌}
 use Rattle.std.specs.List.{AllByRecursion}
 use Rattle.std.proofs.lemmas.List.{take_at}
@@ -177,7 +178,8 @@ part_few xs i sites calls x e lt read is most =
     omega arith
 
 -- the routine whose blocks are changed in place
-pub owned_is : (r : RoutineParts) (ms : List (ℕ × ℕ)) (len n : ℕ) (table t : List (Option ℕ)) (was now rest result : List Block) → result ≡ take len (now ++ rest)
+pub owned_is : (r : RoutineParts) (ms : List (ℕ × ℕ)) (len n : ℕ) (table t : List (Option ℕ)) (was now rest result : List Block)
+    → result ≡ take len (now ++ rest)
     → length now ≡ len → was ≡ r.blocks → n ≡ sites_of_blocks was → HasMoves n table (moves_of ms) → t ≡ table → now ≡ with_block_callees (callee_in t) 0 was
     → record r { blocks = result } ≡ retarget r (moves_of ms)
 owned_is r ms len n table t was now rest result e size blocks count has same whole =

@@ -1,5 +1,6 @@
 -- A table of places, filled from the last summary on.
-use Rattle.std.proofs.Common.{◌≡◌, ℕ, ◌+◌, ◌<◌, ◌≤◌, List, [], ◌∷◌, ◌++◌, map, Option, Some, None, refl, ap, sym, subst, ◌∙◌, arith, length, take, get_or, set, slice_get, nat_eq, append_assoc, inl, inr, length-set}
+use Rattle.std.proofs.Common.{◌≡◌, ℕ, ◌+◌, ◌<◌, ◌≤◌, List, [], ◌∷◌, ◌++◌, map, Option, Some, None, refl, ap, sym, subst, ◌∙◌, arith, length, take}
+use Rattle.std.proofs.Common.{get_or, set, slice_get, nat_eq, append_assoc, inl, inr, length-set}
 use Rattle.std.specs.List.{AllByRecursion}
 use Rattle.std.proofs.lemmas.Bool.{cases_Bool, eqb-true, eqb-false}
 use Rattle.std.proofs.lemmas.List.{get_or-set_same, get_or-set_other, take_more}
@@ -66,7 +67,8 @@ module _ (s left before : List Summary) (r : Summary) (n : ℕ) (t : List (Optio
       | inl is ↦ rw is (ap (λ (k : ℕ). seen_at (map summary_of s) (get_or (set t r.pid (Some (length before))) k None)) (sym (eqb-true r.pid pid is))
           ∙ ap (seen_at (map summary_of s)) (get_or-set_same t r.pid (Some (length before)) None lt)
           ∙ ap (λ (l : List Summary). slice_get (map summary_of l) (length before)) whole ∙ read_there before f.behind r)
-      | inr not ↦ rw not (ap (seen_at (map summary_of s)) (get_or-set_other t r.pid pid (Some (length before)) None (λ same. eqb-false r.pid pid not (sym same))) ∙ f.at pid)
+      | inr not ↦ rw not (ap (seen_at (map summary_of s)) (get_or-set_other t r.pid pid (Some (length before)) None
+          (λ same. eqb-false r.pid pid not (sym same))) ∙ f.at pid)
     ];
   }
 

@@ -1,5 +1,6 @@
 -- Candidates put in order: their groups are in order by rank.
-use Rattle.std.proofs.Common.{◌≡◌, ℕ, ◌+◌, ◌<◌, List, [], ◌∷◌, ◌++◌, map, Bool, true, false, Option, refl, ap, ap₂, sym, subst, ◌∙◌, arith, length, drop, get_or, nat_lt, append_assoc}
+use Rattle.std.proofs.Common.{◌≡◌, ℕ, ◌+◌, ◌<◌, List, [], ◌∷◌, ◌++◌, map, Bool, true, false, Option, refl, ap, ap₂, sym, subst, ◌∙◌, arith, length}
+use Rattle.std.proofs.Common.{drop, get_or, nat_lt, append_assoc}
 use Rattle.std.specs.Prelude.{◌==◌, if◌then◌else◌, cond}
 use Rattle.std.specs.Cmp.{IsStrictWeakOrder, IsTotalOrder}
 use Rattle.std.specs.Cmp.Lexicographic.{slice_cmp}
@@ -82,19 +83,21 @@ in_order : (cs : List Candidate) → IsSortedBy ranks_first cs → IsSortedBy gr
 in_order [] h k d le lt = absurd (omega arith)
 in_order (c ∷ cs) h k d le lt =
     let size : length (map group_of (c ∷ cs)) ≡ length (c ∷ cs) = length-map (c ∷ cs) group_of in
-    ap₂ {A = Group} {B = Group} {C = Bool} group_before (get_or-map group_of (c ∷ cs) (k + 1) c d (omega arith)) (get_or-map group_of (c ∷ cs) k c d (omega arith))
+    ap₂ {A = Group} {B = Group} {C = Bool} group_before (get_or-map group_of (c ∷ cs) (k + 1) c d (omega arith))
+    (get_or-map group_of (c ∷ cs) k c d (omega arith))
     ∙ sym (ranks_are (get_or (c ∷ cs) (k + 1) c) (get_or (c ∷ cs) k c)) ∙ h k c le (omega arith)
 
-module _ (rows : List Row) (es : List (CloneKey × Joint)) (cs sorted : List Candidate) (are : cs ≡ map (candidate_of rows) es) (perm : IsPermutation cs sorted) where
-  pub ranked_are : IsSortedBy ranks_first sorted → AreRanked (groups_in es) (map group_of sorted)
-  ranked_are h = record {
-    all = subst (λ (gs : List Group). IsPermutation gs (map group_of sorted)) (ap (map group_of) are ∙ groups_of_candidates rows es)
-        (IsPermutation-map group_of cs sorted perm);
-    order = in_order sorted h;
-  }
+module _ (rows : List Row) (es : List (CloneKey × Joint)) (cs sorted : List Candidate) (are : cs ≡ map (candidate_of rows) es) (perm : IsPermutation cs sorted)
+  where
+    pub ranked_are : IsSortedBy ranks_first sorted → AreRanked (groups_in es) (map group_of sorted)
+    ranked_are h = record {
+      all = subst (λ (gs : List Group). IsPermutation gs (map group_of sorted)) (ap (map group_of) are ∙ groups_of_candidates rows es)
+          (IsPermutation-map group_of cs sorted perm);
+      order = in_order sorted h;
+    }
 
-  pub clones_are : AllByRecursion (HasClone rows) sorted
-  clones_are = all_permuted (HasClone rows) cs sorted perm (subst (AllByRecursion (HasClone rows)) (sym are) (have_clones rows es))
+    pub clones_are : AllByRecursion (HasClone rows) sorted
+    clones_are = all_permuted (HasClone rows) cs sorted perm (subst (AllByRecursion (HasClone rows)) (sym are) (have_clones rows es))
 
 -- the loop that puts groups and clones together
 pub record Pairing (rows : List Row) (es left : List (CloneKey × Joint)) (clones : List (Option ℕ)) (at : ℕ) (done : List Candidate) : Type 0 where
@@ -108,7 +111,8 @@ pairing_first rows es left clones done all same none = record {
   rest = ap (λ (l : List Candidate). l ++ map (candidate_of rows) left) none ∙ ap (map (candidate_of rows)) all;
 }
 
-module _ (rows : List Row) (es left : List (CloneKey × Joint)) (clones : List (Option ℕ)) (at : ℕ) (done : List Candidate) (p : Pairing rows es left clones at done)
+module _ (rows : List Row) (es left : List (CloneKey × Joint)) (clones : List (Option ℕ)) (at : ℕ) (done : List Candidate)
+    (p : Pairing rows es left clones at done)
     (e : CloneKey × Joint) (more : List (CloneKey × Joint)) (is : left ≡ e ∷ more) where
   pub pairing_within : at < length clones
   pairing_within =
@@ -125,12 +129,14 @@ module _ (rows : List Row) (es left : List (CloneKey × Joint)) (clones : List (
       let later : drop (at + 1) clones ≡ map (clone_for rows) more = cc both in
       record {
         ahead = later;
-        rest = ap (λ (l : List Candidate). l ++ map (candidate_of rows) more) (added ∙ ap (λ (o : Option ℕ). done ++ record { key = e.0; sites = e.1; old = o } ∷ []) here)
+        rest = ap (λ (l : List Candidate). l ++ map (candidate_of rows) more)
+            (added ∙ ap (λ (o : Option ℕ). done ++ record { key = e.0; sites = e.1; old = o } ∷ []) here)
             ∙ append_assoc done (candidate_of rows e ∷ []) (map (candidate_of rows) more)
             ∙ ap (λ (l : List (CloneKey × Joint)). done ++ map (candidate_of rows) l) (sym is) ∙ p.rest;
       }
 
-pub pairing_last : (rows : List Row) (es left : List (CloneKey × Joint)) (clones : List (Option ℕ)) (at : ℕ) (done : List Candidate) → Pairing rows es left clones at done
+pub pairing_last : (rows : List Row) (es left : List (CloneKey × Joint)) (clones : List (Option ℕ)) (at : ℕ) (done : List Candidate)
+    → Pairing rows es left clones at done
     → left ≡ [] → done ≡ map (candidate_of rows) es
 pairing_last rows es left clones at done p none =
     sym (append-nil done) ∙ ap (λ (l : List (CloneKey × Joint)). done ++ map (candidate_of rows) l) (sym none) ∙ p.rest

@@ -108,7 +108,8 @@ fn join_sites(
     requires few { AllByRecursion IsSmall (map summary_of routines.now) }
     requires sites { length caller.now.sites ≤ max_size }
     requires finds { Finds places.now (map summary_of routines.now) }
-    ensures { OnOk result (groups_in groups.new.entries ≡ all_joined (map summary_of routines.now) main (numbered caller.now.pid 0 (map site_of caller.now.sites)) (groups_in groups.old.entries)) }
+    ensures { OnOk result (groups_in groups.new.entries ≡ all_joined (map summary_of routines.now) main
+        (numbered caller.now.pid 0 (map site_of caller.now.sites)) (groups_in groups.old.entries)) }
 {
     let mut left = caller.sites.as_slice();
     while let Some((site, before)) = left.split_last() {
@@ -140,7 +141,8 @@ fn join_site(
 ) -> Result<(), AllocError>
     requires few { AllByRecursion IsSmall (map summary_of routines.now) }
     requires finds { Finds places.now (map summary_of routines.now) }
-    ensures { OnOk result (groups_in groups.new.entries ≡ all_joined (map summary_of routines.now) main (site_at caller number site.now ∷ []) (groups_in groups.old.entries)) }
+    ensures { OnOk result (groups_in groups.new.entries ≡ all_joined (map summary_of routines.now) main (site_at caller number site.now ∷ [])
+        (groups_in groups.old.entries)) }
 {
     if !may_call_clone(main, site) {
         return Ok(());
@@ -215,7 +217,9 @@ fn join(
     number: u32,
     count: u32,
 ) -> Result<(), AllocError>
-    ensures { (known : List (Option ℕ)) → OnOk result (groups_in groups.new.entries ≡ joined (site_by key caller number count known) (fixed_in key.fixed.items) (groups_in groups.old.entries)) }
+    ensures { (known : List (Option ℕ))
+        → OnOk result (groups_in groups.new.entries ≡ joined (site_by key caller number count known) (fixed_in key.fixed.items)
+        (groups_in groups.old.entries)) }
 {
     match groups.get_index_of(&key) {
         Some(at) => {

@@ -84,7 +84,8 @@ fn accept(
     limit: u64,
 ) -> Result<Vec<Group>, AllocError>
     requires { Finds places.now (map summary_of routines.now) }
-    ensures { IfOk result (λ v. v.items ≡ map accepted (taken_by (map summary_of routines.now) limit (at_start (map summary_of routines.now) next) ranked.items)) }
+    ensures { IfOk result (λ v. v.items ≡ map accepted (taken_by (map summary_of routines.now) limit
+        (at_start (map summary_of routines.now) next) ranked.items)) }
 {
     let mut spent = Spent::at_start(routines, next);
     let mut groups = Vec::new(alloc);
@@ -104,8 +105,10 @@ fn accept_one(
     candidate: Candidate,
     callee: Option<&Summary>,
 ) -> Result<(), AllocError>
-    ensures groups { OnOk result (groups.new.items ≡ groups.old.items ++ map accepted (decided limit (group_of candidate) spent.old candidate.old (option_map (λ r. summary_of r.now) callee.entry)).taken) }
-    ensures spent { OnOk result (spent.new ≡ spent_on (decided limit (group_of candidate) spent.old candidate.old (option_map (λ r. summary_of r.now) callee.entry))) }
+    ensures groups { OnOk result (groups.new.items ≡ groups.old.items ++ map accepted
+        (decided limit (group_of candidate) spent.old candidate.old (option_map (λ r. summary_of r.now) callee.entry)).taken) }
+    ensures spent { OnOk result (spent.new ≡ spent_on (decided limit (group_of candidate) spent.old candidate.old
+        (option_map (λ r. summary_of r.now) callee.entry))) }
 {
     let Some(clone) = decide(spent, limit, &candidate, callee) else {
         return Ok(());
@@ -136,8 +139,10 @@ fn decide(
     candidate: &Candidate,
     callee: Option<&Summary>,
 ) -> Option<u32>
-    ensures clone { result ≡ chosen_clone (decided limit (group_of candidate.now) spent.old candidate.now.old (option_map (λ r. summary_of r.now) callee.entry)) }
-    ensures spent { spent.new ≡ spent_on (decided limit (group_of candidate.now) spent.old candidate.now.old (option_map (λ r. summary_of r.now) callee.entry)) }
+    ensures clone { result ≡ chosen_clone (decided limit (group_of candidate.now) spent.old candidate.now.old
+        (option_map (λ r. summary_of r.now) callee.entry)) }
+    ensures spent { spent.new ≡ spent_on (decided limit (group_of candidate.now) spent.old candidate.now.old
+        (option_map (λ r. summary_of r.now) callee.entry)) }
 {
     if let Some(old) = candidate.old {
         return Some(old);
@@ -161,7 +166,8 @@ impl Spent {
     /// The PID of a callee's new clone with constants, where it fits.
     fn take(&mut self, limit: u64, callee: &Summary, fixed: &[(u32, u32)]) -> Option<u32>
         ensures clone { result ≡ (if clone_fits self.old limit (clone_numbers (summary_of callee.now) (fixed_in fixed.now)) then Some self.old.next else None) }
-        ensures spent { self.new ≡ (if clone_fits self.old limit (clone_numbers (summary_of callee.now) (fixed_in fixed.now)) then more_spent self.old (clone_numbers (summary_of callee.now) (fixed_in fixed.now)) else self.old) }
+        ensures spent { self.new ≡ (if clone_fits self.old limit (clone_numbers (summary_of callee.now) (fixed_in fixed.now)) then more_spent self.old
+            (clone_numbers (summary_of callee.now) (fixed_in fixed.now)) else self.old) }
     {
         let Some(size) = clone_size(callee, fixed.len()) else {
             return None;
@@ -176,7 +182,12 @@ impl Spent {
 
     /// Whether a callee's clone of this size fits.
     fn fits(&self, limit: u64, size: u32, callee: &Summary) -> bool
-        ensures { result ≡ clone_fits self.now limit (record { size = size; regs = callee.now.regs; arrays = callee.now.arrays; elements = callee.now.elements }) }
+        ensures { result ≡ clone_fits self.now limit (record {
+          size = size;
+          regs = callee.now.regs;
+          arrays = callee.now.arrays;
+          elements = callee.now.elements;
+        }) }
     {
         let cost = self.cost + u128::from(square(size));
         let is_small = is_within(size, callee);

@@ -1,5 +1,6 @@
 -- A loop over blocks that are changed by the facts at their starts.
-use Rattle.std.proofs.Common.{◌≡◌, ℕ, zero, suc, ◌+◌, ◌<◌, ◌≤◌, List, [], ◌∷◌, ◌++◌, get_or, set, take, drop, length, refl, ap, subst, sym, ◌∙◌, arith, append_assoc, length-set, slice_get}
+use Rattle.std.proofs.Common.{◌≡◌, ℕ, zero, suc, ◌+◌, ◌<◌, ◌≤◌, List, [], ◌∷◌, ◌++◌, get_or, set, take, drop, length, refl, ap, subst, sym, ◌∙◌, arith}
+use Rattle.std.proofs.Common.{append_assoc, length-set, slice_get}
 use Rattle.std.specs.Prelude.{Bool, true, false, not, ◌&&◌, ◌||◌, Option, Some, None}
 use Rattle.std.specs.List.{AllByRecursion, list_any}
 use Rattle.il_core.specs.Operands.{end_reads}
@@ -42,7 +43,8 @@ get_of_drop [] (suc b) x ys e = absurd cc
 get_of_drop (y ∷ xs) zero x ys e = let same : y ≡ x = cc in ap Some same
 get_of_drop (y ∷ xs) (suc b) x ys e = get_of_drop xs b x ys e
 
-module _ (n k : ℕ) (bs : List Block) (b : ℕ) (x : Block) (f : Flow) (t : List (Option ℕ)) (within : b < length bs) (named : AllByRecursion (NamesRegisters n) x.instrs) (here : drop b bs ≡ x ∷ drop (b + 1) bs) (follows : Follows n k bs b f) (starts : Starts f b t) where
+module _ (n k : ℕ) (bs : List Block) (b : ℕ) (x : Block) (f : Flow) (t : List (Option ℕ)) (within : b < length bs)
+    (named : AllByRecursion (NamesRegisters n) x.instrs) (here : drop b bs ≡ x ∷ drop (b + 1) bs) (follows : Follows n k bs b f) (starts : Starts f b t) where
   abbrev facts : Facts
   facts = facts_at (bare k bs) b
 
@@ -72,7 +74,8 @@ module _ (n k : ℕ) (bs : List Block) (b : ℕ) (x : Block) (f : Flow) (t : Lis
     end_as y lt e =
         h.at y lt
         ∙ through_by n x.instrs (facts_in t) facts named starts_as y
-        (λ quiet. needed_as y lt (or_right (is_exposed x.instrs y) (not (any_writes x.instrs y) && end_reads x.end y) (ap (λ (w : Bool). not w && end_reads x.end y) quiet ∙ e)))
+        (λ quiet. needed_as y lt (or_right (is_exposed x.instrs y) (not (any_writes x.instrs y) && end_reads x.end y)
+        (ap (λ (w : Bool). not w && end_reads x.end y) quiet ∙ e)))
 
     -- and of those that are taken where it jumps
     sends_as : Sends f.carried.items f.looped.items x.end b u (through x.instrs facts)
@@ -93,7 +96,8 @@ pub change_next : (change : Facts → Block → Block) (n k : ℕ) (bs : List Bl
     → Changed change n k bs (b + 1) f2 (set now b y)
 change_next change n k bs b x y f f2 now lt here read e follows c =
     let next : suc b ≡ b + 1 = omega arith in
-    let more : drop (b + 1) now ≡ drop (b + 1) bs = (let both : x ∷ drop (b + 1) now ≡ x ∷ drop (b + 1) bs = sym (drop_read now b x lt read) ∙ c.rest ∙ here in cc) in
+    let more : drop (b + 1) now ≡ drop (b + 1) bs = (let both : x ∷ drop (b + 1) now ≡ x ∷ drop (b + 1) bs = sym (drop_read now b x lt read) ∙ c.rest ∙ here
+    in cc) in
     record {
       follows = follows;
       count = length-set now b y ∙ c.count;

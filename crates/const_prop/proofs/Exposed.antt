@@ -66,7 +66,8 @@ propagated_by (Call dest p count args) fs gs e = refl
 propagated_by (GetChar d) fs gs e = refl
 propagated_by (PutChar d s) fs gs e = refl
 
-args_by : (n : ℕ) (fs gs : Facts) (args : List ℕ) → AllByRecursion (λ x. x < n) args → AgreeWhere n (λ x. list_any (nat_eq x) args) fs gs → map fs args ≡ map gs args
+args_by : (n : ℕ) (fs gs : Facts) (args : List ℕ) → AllByRecursion (λ x. x < n) args → AgreeWhere n (λ x. list_any (nat_eq x) args) fs gs
+    → map fs args ≡ map gs args
 args_by n fs gs [] m h = refl
 args_by n fs gs (a ∷ args) m h =
     ap (λ (o : Option ℕ). o ∷ map fs args) (h.at a m.0 (any_here a args))
@@ -117,13 +118,15 @@ module _ (n : ℕ) (i : Instr) (is : List Instr) (fs gs : Facts) (named : NamesR
 
 -- what instructions become, what is known at their calls, and what is known behind them
 
-pub all_by : (n : ℕ) (is : List Instr) (fs gs : Facts) → AllByRecursion (NamesRegisters n) is → AgreeWhere n (is_exposed is) fs gs → propagated_all fs is ≡ propagated_all gs is
+pub all_by : (n : ℕ) (is : List Instr) (fs gs : Facts) → AllByRecursion (NamesRegisters n) is → AgreeWhere n (is_exposed is) fs gs
+    → propagated_all fs is ≡ propagated_all gs is
 all_by n [] fs gs m h = refl
 all_by n (i ∷ is) fs gs m h =
     ap (λ (j : Instr). j ∷ propagated_all (after i fs) is) (propagated_by i fs gs (gives_alike n i is fs gs m.0 h))
     ∙ ap (λ (js : List Instr). propagated gs i ∷ js) (all_by n is (after i fs) (after i gs) m.1 (on_rest n i is fs gs m.0 h))
 
-pub known_by : (n : ℕ) (is : List Instr) (fs gs : Facts) → AllByRecursion (NamesRegisters n) is → AgreeWhere n (is_exposed is) fs gs → known_in fs is ≡ known_in gs is
+pub known_by : (n : ℕ) (is : List Instr) (fs gs : Facts) → AllByRecursion (NamesRegisters n) is → AgreeWhere n (is_exposed is) fs gs
+    → known_in fs is ≡ known_in gs is
 known_by n [] fs gs m h = refl
 known_by n (i ∷ is) fs gs m h =
     ap (λ (ss : List KnownSite). ss ++ known_in (after i fs) is) (site_by n i fs gs m.0 (on_reads n i is fs gs m.0 h))

@@ -1,5 +1,6 @@
 -- The facts go on from block to block.
-use Rattle.std.proofs.Common.{◌≡◌, ◌≢◌, ℕ, zero, suc, ◌<◌, ◌≤◌, List, [], ◌∷◌, get_or, length, Bool, true, false, refl, ap, subst, sym, ◌∙◌, arith, slice_get, inl, inr, eq-eqb, eqb-true}
+use Rattle.std.proofs.Common.{◌≡◌, ◌≢◌, ℕ, zero, suc, ◌<◌, ◌≤◌, List, [], ◌∷◌, get_or, length, Bool, true, false, refl, ap, subst, sym, ◌∙◌, arith}
+use Rattle.std.proofs.Common.{slice_get, inl, inr, eq-eqb, eqb-true}
 use Rattle.std.proofs.lemmas.Bool.{true≢false}
 use Rattle.std.proofs.lemmas.Bool.{cases_eq}
 use Rattle.std.specs.Prelude.{Option, Some, None, nat_eq, nat_lt, ◌||◌, if◌then◌else◌}
@@ -51,7 +52,8 @@ has_again n (Some t) None (Some fs) h k = k
 has_again n (Some t) (Some u) (Some fs) h k = record { size = k.size; at = λ x lt. k.at x lt ∙ h.at x lt }
 
 -- what arrives, by the table that was there and the facts that came
-arrived_as : (n : ℕ) (k : Bool) (gs fs : Facts) (o u : Option (List (Option ℕ))) (p : Option Facts) → (k ≡ true → (x : ℕ) → x < n → gs x ≡ fs x) → HasIfSome n o p
+arrived_as : (n : ℕ) (k : Bool) (gs fs : Facts) (o u : Option (List (Option ℕ))) (p : Option Facts) → (k ≡ true → (x : ℕ) → x < n → gs x ≡ fs x)
+    → HasIfSome n o p
     → HasIfSome n u (if k then Some (meet gs (facts_of o)) else facts_of o) → HasIfSome n u (if k then Some (meet fs p) else p)
 arrived_as n true gs fs o u p h was now = has_as n u (meet gs (facts_of o)) (meet fs p) (meet_as n gs fs o p (h refl) was) now
 arrived_as n false gs fs o u p h was now = has_again n o u p was now
@@ -71,7 +73,8 @@ placed_as n cs true fs (Some gs) u h = has_as n u (meet (placed cs fs) (Some (pl
 placed_as n cs false fs o u h = h
 
 -- what is restored is what was kept
-restored : (cs : List ℕ) (o : Option (List (Option ℕ))) (p : Option Facts) (t : List (Option ℕ)) → HasIfSome (length cs) o (placed_if_some cs p) → RestoresIfSome cs o t → Knows cs t (known p)
+restored : (cs : List ℕ) (o : Option (List (Option ℕ))) (p : Option Facts) (t : List (Option ℕ)) → HasIfSome (length cs) o (placed_if_some cs p)
+    → RestoresIfSome cs o t → Knows cs t (known p)
 restored cs None None t h k = k
 restored cs None (Some fs) t h k = absurd h
 restored cs (Some kept) None t h k = absurd h
@@ -136,16 +139,20 @@ module _ (n k : ℕ) (bs : List Block) (b : ℕ) (f : Flow) (h : Follows n k bs 
         let ne : u ≢ b = λ same. absurd (omega arith) in
         let cs : List ℕ = row_of f.carried.items u in
         let was : HasIfSome (length cs) (get_or f1.arriving.items u None) (placed_if_some cs (came u)) =
-        subst (λ (o : Option (List (Option ℕ))). HasIfSome (length cs) o (placed_if_some cs (came u))) (sym (e.others u ne)) (h.arriving u (omega arith) lt quiet) in
-        let now : HasIfSome (length cs) (get_or f2.arriving.items u None) (arrived x.end (placed cs (facts_in t)) u (facts_of (get_or f1.arriving.items u None))) =
+        subst (λ (o : Option (List (Option ℕ))). HasIfSome (length cs) o (placed_if_some cs (came u))) (sym (e.others u ne))
+        (h.arriving u (omega arith) lt quiet) in
+        let now : HasIfSome (length cs) (get_or f2.arriving.items u None)
+        (arrived x.end (placed cs (facts_in t)) u (facts_of (get_or f1.arriving.items u None))) =
         subst (λ (rows : List (List ℕ)). HasIfSome (length (row_of rows u)) (get_or f2.arriving.items u None)
         (arrived x.end (placed (row_of rows u) (facts_in t)) u (facts_of (get_or f1.arriving.items u None))))
         e.same.carried (l.arriving u (omega arith) (subst (λ (ms : List Bool). get_or ms u false ≡ false) (sym e.same.looped) quiet)) in
-        let joined : HasIfSome (length cs) (get_or f2.arriving.items u None) (placed_if_some cs (if jumps_to x.end u then Some (meet facts (came u)) else came u)) =
+        let joined : HasIfSome (length cs) (get_or f2.arriving.items u None)
+        (placed_if_some cs (if jumps_to x.end u then Some (meet facts (came u)) else came u)) =
         placed_as (length cs) cs (jumps_to x.end u) facts (came u) (get_or f2.arriving.items u None)
         (arrived_as (length cs) (jumps_to x.end u) (placed cs (facts_in t)) (placed cs facts) (get_or f1.arriving.items u None)
         (get_or f2.arriving.items u None) (placed_if_some cs (came u)) (λ jumps i less. sends u i (omega arith) jumps quiet less) was now) in
-        subst (λ (o : Option Block). HasIfSome (length cs) (get_or f2.arriving.items u None) (placed_if_some cs (arriving u (one_more (bare k bs) b o (before (bare k bs) b)))))
+        subst (λ (o : Option Block). HasIfSome (length cs) (get_or f2.arriving.items u None)
+        (placed_if_some cs (arriving u (one_more (bare k bs) b o (before (bare k bs) b)))))
         (sym is) joined
 
     pub follow_more : Follows n k bs (suc b) f2

@@ -20,7 +20,8 @@ or_false true = refl
 or_false false = refl
 
 module _ (X : Type 0) (p : X → ℕ → Bool) (xs : List X) (old : List Bool) where
-  pub marks_more : (k : ℕ) (y : X) (now new : List Bool) → k < length xs → y ≡ get_or xs k y → AddsMarks now new (p y) → Marking X p xs old k now → Marking X p xs old (k + 1) new
+  pub marks_more : (k : ℕ) (y : X) (now new : List Bool) → k < length xs → y ≡ get_or xs k y → AddsMarks now new (p y) → Marking X p xs old k now
+      → Marking X p xs old (k + 1) new
   marks_more k y now new lt read a m =
       record {
         size = a.size ∙ m.size;
@@ -36,5 +37,6 @@ module _ (X : Type 0) (p : X → ℕ → Bool) (xs : List X) (old : List Bool) w
   marks_done k now past m =
       record {
         size = m.size;
-        at = λ x lx. sym (or_false (get_or now x false)) ∙ ap (λ (ys : List X). get_or now x false || list_any (λ z. p z x) ys) (sym (drop_all k xs past)) ∙ m.at x lx;
+        at = λ x lx. sym (or_false (get_or now x false)) ∙ ap (λ (ys : List X). get_or now x false || list_any (λ z. p z x) ys) (sym (drop_all k xs past)) ∙
+            m.at x lx;
       }

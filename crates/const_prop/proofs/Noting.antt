@@ -1,5 +1,6 @@
 -- What blocks take, noted instruction by instruction, and block by block from the last one on.
-use Rattle.std.proofs.Common.{◌≡◌, ◌≢◌, ℕ, zero, suc, ◌+◌, ◌<◌, ◌≤◌, ◌⊎◌, inl, inr, List, [], ◌∷◌, get_or, set, drop, length, Bool, true, false, refl, ap, subst, sym, ◌∙◌, arith, length-set, get_or-set_same, get_or-set_other, slice_get, eqb-true}
+use Rattle.std.proofs.Common.{◌≡◌, ◌≢◌, ℕ, zero, suc, ◌+◌, ◌<◌, ◌≤◌, ◌⊎◌, inl, inr, List, [], ◌∷◌, get_or, set, drop, length, Bool, true, false, refl}
+use Rattle.std.proofs.Common.{ap, subst, sym, ◌∙◌, arith, length-set, get_or-set_same, get_or-set_other, slice_get, eqb-true}
 use Rattle.std.specs.Prelude.{Option, Some, not, ◌||◌, ◌&&◌, nat_eq, if◌then◌else◌}
 use Rattle.std.proofs.lemmas.Bool.{cases_eq, true≢false}
 use Rattle.std.proofs.lemmas.List.{drop_all}
@@ -19,7 +20,8 @@ use Rattle.list_laws.proofs.Elements.{drop_read}
 pub record Noting (n : ℕ) (is : List Instr) (old now : Taking) (k : ℕ) : Type 0 where
   pub taking : IsTaking n now
   pub stamp : now.stamp ≡ old.stamp
-  pub exposed : (x : ℕ) → x < n → is_exposed is x ≡ true → (StandsIn now.row.items x) ⊎ ((get_or now.writers.items x 0 ≢ now.stamp) × (is_exposed (drop k is) x ≡ true))
+  pub exposed : (x : ℕ) → x < n → is_exposed is x ≡ true
+      → (StandsIn now.row.items x) ⊎ ((get_or now.writers.items x 0 ≢ now.stamp) × (is_exposed (drop k is) x ≡ true))
   pub stays : (x : ℕ) → x < n → any_writes is x ≡ false → (any_writes (drop k is) x ≡ false) × (get_or now.writers.items x 0 ≡ get_or old.writers.items x 0)
 
 exposed_step : (r w e : Bool) → (r || (not w && e)) ≡ true → (r ≡ true) ⊎ ((w ≡ false) × (e ≡ true))
@@ -44,13 +46,15 @@ module _ (n : ℕ) (is : List Instr) (old : Taking) where
         exposed = λ x less e.
             elim (h.exposed x less e) [
               | inl s ↦ inl (noted.grows x s)
-              | inr p ↦ elim (exposed_step (reads i x) (writes i x) (is_exposed (drop (k + 1) is) x) (ap (λ (js : List Instr). is_exposed js x) (sym here) ∙ p.1)) [
-                | inl r ↦ inl (noted.reads x less p.0 r)
-                | inr q ↦ inr (
-                  (λ same. p.0 (sym (noted.writes x less ∙ ap (λ (w : Bool). if w then now.stamp else get_or now.writers.items x 0) q.0) ∙ same ∙ noted.stamp)),
-                  q.1,
-                )
-              ]
+              | inr p ↦ elim (exposed_step (reads i x) (writes i x) (is_exposed (drop (k + 1) is) x)
+                  (ap (λ (js : List Instr). is_exposed js x) (sym here) ∙ p.1)) [
+                    | inl r ↦ inl (noted.reads x less p.0 r)
+                    | inr q ↦ inr (
+                      (λ same. p.0 (sym (noted.writes x less ∙ ap (λ (w : Bool). if w then now.stamp else get_or now.writers.items x 0) q.0) ∙ same ∙
+                          noted.stamp)),
+                      q.1,
+                    )
+                  ]
             ];
         stays = λ x less e.
             let p = h.stays x less e in
@@ -59,8 +63,10 @@ module _ (n : ℕ) (is : List Instr) (old : Taking) where
       }
 
   -- a register that is read at the end is taken
-  pub end_taken : (now new : Taking) (k : ℕ) (e : End) (o : Option ℕ) (r x : ℕ) → o ≡ end_source e → o ≡ Some r → x < n → end_reads e x ≡ true → Noting n is old now k
-      → (r < length now.takers.items → get_or now.writers.items r 0 ≢ now.stamp → StandsIn new.row.items r) → get_or now.writers.items x 0 ≢ now.stamp → StandsIn new.row.items x
+  pub end_taken : (now new : Taking) (k : ℕ) (e : End) (o : Option ℕ) (r x : ℕ) → o ≡ end_source e → o ≡ Some r → x < n → end_reads e x ≡ true
+      → Noting n is old now k
+      → (r < length now.takers.items → get_or now.writers.items r 0 ≢ now.stamp → StandsIn new.row.items r) → get_or now.writers.items x 0 ≢ now.stamp
+      → StandsIn new.row.items x
   end_taken now new k e o r x source some less reads h here unwritten =
       let same : x ≡ r = eqb-true x r (ap (λ (p : Option ℕ). is_named p x) (sym some ∙ source) ∙ reads) in
       subst (StandsIn new.row.items) (sym same)
@@ -68,7 +74,8 @@ module _ (n : ℕ) (is : List Instr) (old : Taking) where
       (subst (λ (y : ℕ). get_or now.writers.items y 0 ≢ now.stamp) same unwritten))
 
   -- behind all instructions, what the end reads is taken
-  pub needed_done : (now new : Taking) (k : ℕ) (block : Block) (js : List Instr) → js ≡ is → is ≡ block.instrs → length js ≤ k → ((x : ℕ) → x < n → get_or old.writers.items x 0 ≢ old.stamp)
+  pub needed_done : (now new : Taking) (k : ℕ) (block : Block) (js : List Instr) → js ≡ is → is ≡ block.instrs → length js ≤ k
+      → ((x : ℕ) → x < n → get_or old.writers.items x 0 ≢ old.stamp)
       → Noting n is old now k → Took now new
       → ((x : ℕ) → x < n → end_reads block.end x ≡ true → get_or now.writers.items x 0 ≢ now.stamp → StandsIn new.row.items x) → TookNeeded n block old new
   needed_done now new k block js same is_instrs past fresh h took ends =
@@ -78,7 +85,8 @@ module _ (n : ℕ) (is : List Instr) (old : Taking) where
         | inl s ↦ took.grows x s
         | inr p ↦ absurd (true≢false (sym p.1 ∙ ap (λ (js : List Instr). is_exposed js x) nothing))
       ]) in
-      let quiet : (x : ℕ) → x < n → any_writes is x ≡ false → get_or now.writers.items x 0 ≡ get_or old.writers.items x 0 = (λ x less e. (h.stays x less e).1) in
+      let quiet : (x : ℕ) → x < n → any_writes is x ≡ false
+      → get_or now.writers.items x 0 ≡ get_or old.writers.items x 0 = (λ x less e. (h.stays x less e).1) in
       record {
         stamp = took.stamp ∙ h.stamp;
         needed = λ x less e.
@@ -100,7 +108,8 @@ pub took_nothing : (s : Taking) → Took s s
 took_nothing s = record { stamp = refl; writers = refl; grows = λ x h. h }
 
 -- of what two blocks take, where an end jumps to both
-pub passed_both : (n : ℕ) (r t u : ℕ) (looped : List Bool) (rows : List (List ℕ)) (old mid new : Taking) → Took old mid → (get_or looped t false ≡ false → TookRow n (row_of rows t) old mid)
+pub passed_both : (n : ℕ) (r t u : ℕ) (looped : List Bool) (rows : List (List ℕ)) (old mid new : Taking) → Took old mid
+    → (get_or looped t false ≡ false → TookRow n (row_of rows t) old mid)
     → Took mid new → (get_or looped u false ≡ false → TookRow n (row_of rows u) mid new) → TookPassed n (ends.Branch r t u) looped rows old new
 passed_both n r t u looped rows old mid new first here second there =
     record {
@@ -174,8 +183,10 @@ get_some [] b x y d e h = absurd cc
 get_some (z ∷ xs) zero x y d e h = (let same : z ≡ x = cc in sym same ∙ sym h)
 get_some (z ∷ xs) (suc b) x y d e h = get_some xs b x y d e h
 
-pub take_next : (n : ℕ) (looped : List Bool) (bs : List Block) (rows same_rows : List (List ℕ)) (done b : ℕ) (s s1 : Taking) (block : Block) (mine : List ℕ) → b + suc done ≡ length bs
-    → block ≡ get_or bs b block → same_rows ≡ rows → IsTaken (length s.takers.items) looped same_rows block mine → IsStamped (length s.takers.items) s1 → s1.stamp ≡ done + 1 → s1.row.items ≡ [] → TakingBack n looped bs rows done s
+pub take_next : (n : ℕ) (looped : List Bool) (bs : List Block) (rows same_rows : List (List ℕ)) (done b : ℕ) (s s1 : Taking) (block : Block) (mine : List ℕ)
+    → b + suc done ≡ length bs
+    → block ≡ get_or bs b block → same_rows ≡ rows → IsTaken (length s.takers.items) looped same_rows block mine → IsStamped (length s.takers.items) s1
+    → s1.stamp ≡ done + 1 → s1.row.items ≡ [] → TakingBack n looped bs rows done s
     → TakingBack n looped bs (set rows b mine) (done + 1) s1
 take_next n looped bs rows same_rows done b s s1 block mine at read same_as taken_there stamped_there stamp row h =
     let count = h.count in

@@ -52,11 +52,13 @@ abbrev pub words_in : List KnownSite → List (List (Option ℕ))
 words_in ss = map (λ (s : KnownSite). s.known) ss
 
 -- what is put down, and what will be, is what is known in all
-pub record Putting (start : List (Option ℕ)) (is : List Instr) (before_all : List (List (Option Word))) (k : ℕ) (t : List (Option ℕ)) (now : List (List (Option Word))) : Type 0 where
+pub record Putting (start : List (Option ℕ)) (is : List Instr) (before_all : List (List (Option Word))) (k : ℕ) (t : List (Option ℕ))
+    (now : List (List (Option Word))) : Type 0 where
   pub passing : Passing (length start) is start k t
   pub whole : words_of now ++ words_in (known_in (facts_in t) (drop k is)) ≡ words_of before_all ++ words_in (known_in (facts_in start) is)
 
-pub put_step : (start : List (Option ℕ)) (is : List Instr) (was : List (List (Option Word))) (k : ℕ) (i : Instr) (t u : List (Option ℕ)) (now new : List (List (Option Word)))
+pub put_step : (start : List (Option ℕ)) (is : List Instr) (was : List (List (Option Word))) (k : ℕ) (i : Instr) (t u : List (Option ℕ))
+    (now new : List (List (Option Word)))
     → AllByRecursion (NamesRegisters (length start)) is → k < length is → i ≡ get_or is k i → words_of new ≡ words_of now ++ words_in (site_of (facts_in t) i)
     → Has (length t) u (after i (facts_in t)) → Putting start is was k t now → Putting start is was (k + 1) u new
 put_step start is was k i t u now new named lt read e h p =
@@ -75,7 +77,8 @@ put_step start is was k i t u now new named lt read e h p =
           ∙ ap (λ (js : List Instr). words_of now ++ words_in (known_in (facts_in t) js)) (sym here) ∙ p.whole;
     }
 
-pub put_done : (start : List (Option ℕ)) (is : List Instr) (was : List (List (Option Word))) (k : ℕ) (t : List (Option ℕ)) (now : List (List (Option Word))) → length is ≤ k
+pub put_done : (start : List (Option ℕ)) (is : List Instr) (was : List (List (Option Word))) (k : ℕ) (t : List (Option ℕ)) (now : List (List (Option Word)))
+    → length is ≤ k
     → Putting start is was k t now → words_of now ≡ words_of was ++ words_in (known_in (facts_in start) is)
 put_done start is was k t now past p =
     sym (append-nil (words_of now)) ∙ ap (λ (js : List Instr). words_of now ++ words_in (known_in (facts_in t) js)) (sym (drop_all k is past)) ∙ p.whole
@@ -83,12 +86,14 @@ put_done start is was k t now past p =
 -- ---- over blocks
 
 -- behind b blocks, what is put down, and what will be, is what is known in all, and the table is as long as there are registers
-pub record PuttingAll (n k : ℕ) (bs : List Block) (was : List (List (Option Word))) (b : ℕ) (f : Flow) (t : List (Option ℕ)) (now : List (List (Option Word))) : Type 0 where
+pub record PuttingAll (n k : ℕ) (bs : List Block) (was : List (List (Option Word))) (b : ℕ) (f : Flow) (t : List (Option ℕ)) (now : List (List (Option Word))) :
+    Type 0 where
   pub follows : Follows n k bs b f
   pub size : length t ≡ n
   pub whole : words_of now ++ words_in (known_from (bare k bs) b (drop b bs)) ≡ words_of was ++ words_in (known_from (bare k bs) 0 bs)
 
-pub put_next : (n k : ℕ) (bs : List Block) (was : List (List (Option Word))) (b : ℕ) (x : Block) (f f1 f2 : Flow) (s t u : List (Option ℕ)) (now new : List (List (Option Word)))
+pub put_next : (n k : ℕ) (bs : List Block) (was : List (List (Option Word))) (b : ℕ) (x : Block) (f f1 f2 : Flow) (s t u : List (Option ℕ))
+    (now new : List (List (Option Word)))
     → AreNamed n bs → b < length bs → x ≡ get_or bs b x → PuttingAll n k bs was b f s now → length t ≡ length s → Starts f b t → Entered f f1 b
     → words_of new ≡ words_of now ++ words_in (known_in (facts_in t) x.instrs) → Has (length t) u (through x.instrs (facts_in t))
     → Left x.end u f1 f2 → PuttingAll n k bs was (b + 1) f2 u new
@@ -104,14 +109,16 @@ put_next n k bs was b x f f1 f2 s t u now new named lt read p same starts e is h
       follows = follows_next n k bs b x f t lt mine here p.follows starts u behind f1 f2 e left;
       size = behind.size;
       whole = ap (λ (ws : List (List (Option ℕ))). ws ++ words_in others) is
-          ∙ ap (λ (ss : List KnownSite). (words_of now ++ words_in ss) ++ words_in others) (known_by n x.instrs (facts_in t) (facts_at (bare k bs) b) mine agree)
+          ∙ ap (λ (ss : List KnownSite). (words_of now ++ words_in ss) ++ words_in others)
+          (known_by n x.instrs (facts_in t) (facts_at (bare k bs) b) mine agree)
           ∙ append_assoc (words_of now) (words_in mine_known) (words_in others)
           ∙ ap (λ (ws : List (List (Option ℕ))). words_of now ++ ws) (sym (map-append (λ (s : KnownSite). s.known) mine_known others))
           ∙ ap (λ (c : ℕ). words_of now ++ words_in (mine_known ++ known_from (bare k bs) c (drop (b + 1) bs))) (sym next)
           ∙ ap (λ (ys : List Block). words_of now ++ words_in (known_from (bare k bs) b ys)) (sym here) ∙ p.whole;
     }
 
-pub put_all : (n k : ℕ) (bs : List Block) (was : List (List (Option Word))) (b : ℕ) (f : Flow) (t : List (Option ℕ)) (now : List (List (Option Word))) → length bs ≤ b
+pub put_all : (n k : ℕ) (bs : List Block) (was : List (List (Option Word))) (b : ℕ) (f : Flow) (t : List (Option ℕ)) (now : List (List (Option Word)))
+    → length bs ≤ b
     → PuttingAll n k bs was b f t now → words_of now ≡ words_of was ++ words_in (known_from (bare k bs) 0 bs)
 put_all n k bs was b f t now past p =
     sym (append-nil (words_of now)) ∙ ap (λ (ys : List Block). words_of now ++ words_in (known_from (bare k bs) b ys)) (sym (drop_all b bs past)) ∙ p.whole
@@ -123,7 +130,8 @@ known_bare r b (x ∷ xs) =
     ∙ ap (λ (ss : List KnownSite). known_in (facts_at r b) x.instrs ++ ss) (known_bare r (suc b) xs)
 
 -- what is known at the sites of a routine's blocks is what is known at its sites
-pub sites_are : (r : RoutineParts) (k : ℕ) (bs : List Block) → k ≡ r.params → bs ≡ r.blocks → words_in (known_from (bare k bs) 0 bs) ≡ words_in (known_from r 0 r.blocks)
+pub sites_are : (r : RoutineParts) (k : ℕ) (bs : List Block) → k ≡ r.params → bs ≡ r.blocks
+    → words_in (known_from (bare k bs) 0 bs) ≡ words_in (known_from r 0 r.blocks)
 sites_are r k bs params blocks =
     ap (λ (m : ℕ). words_in (known_from (bare m bs) 0 bs)) params
     ∙ ap (λ (cs : List Block). words_in (known_from (bare r.params cs) 0 cs)) blocks

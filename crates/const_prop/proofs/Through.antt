@@ -1,5 +1,6 @@
 -- Facts of the registers that instructions name decide what they do to facts.
-use Rattle.std.proofs.Common.{◌≡◌, ℕ, ◌+◌, ◌<◌, ◌≤◌, List, [], ◌∷◌, ◌++◌, get_or, set, take, drop, length, refl, ap, sym, subst, ◌∙◌, arith, append_assoc, length-set}
+use Rattle.std.proofs.Common.{◌≡◌, ℕ, ◌+◌, ◌<◌, ◌≤◌, List, [], ◌∷◌, ◌++◌, get_or, set, take, drop, length, refl, ap, sym, subst, ◌∙◌, arith}
+use Rattle.std.proofs.Common.{append_assoc, length-set}
 use Rattle.std.proofs.lemmas.List.{drop_all, drop_more, drop-set-lt, take_all, take_more_set, append-nil}
 use Rattle.std.specs.Prelude.{Option, if◌then◌else◌, option_map}
 use Rattle.std.specs.List.{AllByRecursion}
@@ -78,7 +79,8 @@ module _ (n : ℕ) (is : List Instr) (start : List (Option ℕ)) (named : AllByR
   pub named_at : (k : ℕ) (i : Instr) → drop k is ≡ i ∷ drop (k + 1) is → NamesRegisters n i × AllByRecursion (NamesRegisters n) (drop (k + 1) is)
   named_at k i e = subst (AllByRecursion (NamesRegisters n)) e (all_drop (NamesRegisters n) k is named)
 
-  module _ (k : ℕ) (i : Instr) (t u : List (Option ℕ)) (here : drop k is ≡ i ∷ drop (k + 1) is) (p : Passing n is start k t) (h : Has n u (after i (facts_in t))) where
+  module _ (k : ℕ) (i : Instr) (t u : List (Option ℕ)) (here : drop k is ≡ i ∷ drop (k + 1) is) (p : Passing n is start k t)
+      (h : Has n u (after i (facts_in t))) where
     rest_named : AllByRecursion (NamesRegisters n) (drop (k + 1) is)
     rest_named = (named_at k i here).1
 
@@ -115,7 +117,8 @@ pub record Changing (n : ℕ) (is : List Instr) (start : List (Option ℕ)) (k :
   pub rest : drop k now ≡ drop k is
   pub whole : take k now ++ propagated_all (facts_in t) (drop k is) ≡ propagated_all (facts_in start) is
 
-module _ (n : ℕ) (is : List Instr) (start : List (Option ℕ)) (named : AllByRecursion (NamesRegisters n) is) (k : ℕ) (i : Instr) (t : List (Option ℕ)) (now : List Instr) (lt : k < length now) (read : i ≡ get_or now k i) (c : Changing n is start k t now) where
+module _ (n : ℕ) (is : List Instr) (start : List (Option ℕ)) (named : AllByRecursion (NamesRegisters n) is) (k : ℕ) (i : Instr) (t : List (Option ℕ))
+    (now : List Instr) (lt : k < length now) (read : i ≡ get_or now k i) (c : Changing n is start k t now) where
   here : drop k is ≡ i ∷ drop (k + 1) is
   here =
       let size = c.count in
@@ -127,7 +130,8 @@ module _ (n : ℕ) (is : List Instr) (start : List (Option ℕ)) (named : AllByR
   pub change_named : NamesRegisters n i
   change_named = (named_at n is start named k i here).0
 
-  pub change_more : (u : List (Option ℕ)) (j : Instr) → j ≡ propagated (facts_in t) i → Has n u (after i (facts_in t)) → Changing n is start (k + 1) u (set now k j)
+  pub change_more : (u : List (Option ℕ)) (j : Instr) → j ≡ propagated (facts_in t) i → Has n u (after i (facts_in t))
+      → Changing n is start (k + 1) u (set now k j)
   change_more u j e h =
       record {
         passing = pass_more n is start named k i t u here c.passing h;
@@ -142,7 +146,8 @@ module _ (n : ℕ) (is : List Instr) (start : List (Option ℕ)) (named : AllByR
       rest_more : drop (k + 1) now ≡ drop (k + 1) is
       rest_more = let e : i ∷ drop (k + 1) now ≡ i ∷ drop (k + 1) is = sym (drop_read now k i lt read) ∙ c.rest ∙ here in cc
 
-pub change_done : (n : ℕ) (is : List Instr) (start : List (Option ℕ)) (k : ℕ) (t : List (Option ℕ)) (now : List Instr) → length now ≤ k → Changing n is start k t now → now ≡ propagated_all (facts_in start) is
+pub change_done : (n : ℕ) (is : List Instr) (start : List (Option ℕ)) (k : ℕ) (t : List (Option ℕ)) (now : List Instr) → length now ≤ k
+    → Changing n is start k t now → now ≡ propagated_all (facts_in start) is
 change_done n is start k t now past c =
     let size = c.count in
     sym (append-nil now) ∙ ap (λ (js : List Instr). js ++ []) (sym (take_all k now past))
@@ -151,11 +156,13 @@ change_done n is start k t now past c =
 -- ---- what the loops take from the code
 
 pub pass_step : (is : List Instr) (start : List (Option ℕ)) (k : ℕ) (i : Instr) (t u : List (Option ℕ)) → AllByRecursion (NamesRegisters (length start)) is
-    → k < length is → i ≡ get_or is k i → Has (length t) u (after i (facts_in t)) → Passing (length start) is start k t → Passing (length start) is start (k + 1) u
+    → k < length is → i ≡ get_or is k i → Has (length t) u (after i (facts_in t)) → Passing (length start) is start k t
+    → Passing (length start) is start (k + 1) u
 pass_step is start k i t u named lt read h p =
     pass_more (length start) is start named k i t u (drop_read is k i lt read) p (subst (λ (n : ℕ). Has n u (after i (facts_in t))) p.size h)
 
-pub change_step : (is : List Instr) (start : List (Option ℕ)) (k : ℕ) (i j : Instr) (t u : List (Option ℕ)) (now : List Instr) → AllByRecursion (NamesRegisters (length start)) is
+pub change_step : (is : List Instr) (start : List (Option ℕ)) (k : ℕ) (i j : Instr) (t u : List (Option ℕ)) (now : List Instr)
+    → AllByRecursion (NamesRegisters (length start)) is
     → k < length now → i ≡ get_or now k i → j ≡ propagated (facts_in t) i → Has (length t) u (after i (facts_in t)) → Changing (length start) is start k t now
     → Changing (length start) is start (k + 1) u (set now k j)
 change_step is start k i j t u now named lt read e h c =

@@ -26,19 +26,24 @@ cleared_is t u r c a m h =
       at = λ x lt. elim (cases_lt x r) [
         | inl less ↦ (let k : is_among r c x ≡ false = grind (arith, nat_tests) in h.before x less ∙ sym (ap (λ k. if k then Some 0 else get_or t x None) k))
         | inr ge ↦ elim (cases_lt x (r + c)) [
-          | inl in_range ↦ (let k : is_among r c x ≡ true = grind (arith, nat_tests) in h.inside x ge in_range ∙ sym (ap (λ k. if k then Some 0 else get_or t x None) k))
+          | inl in_range ↦ (let k : is_among r c x ≡ true = grind (arith, nat_tests) in h.inside x ge in_range ∙ sym
+              (ap (λ k. if k then Some 0 else get_or t x None) k))
           | inr past ↦ (let k : is_among r c x ≡ false = grind (arith, nat_tests) in h.after x past ∙ sym (ap (λ k. if k then Some 0 else get_or t x None) k))
         ]
       ];
     }
 
 -- a row of numbers filled
-pub filled_is : (b : ℕ) (old new : List ℕ) (first count : ℕ) → Filled b old new first count → (x : ℕ) → get_or new x 0 ≡ (if is_among first count x then b else get_or old x 0)
+pub filled_is : (b : ℕ) (old new : List ℕ) (first count : ℕ) → Filled b old new first count → (x : ℕ)
+    → get_or new x 0 ≡ (if is_among first count x then b else get_or old x 0)
 filled_is b old new first count h x =
     elim (cases_lt x first) [
-      | inl less ↦ (let k : is_among first count x ≡ false = grind (arith, nat_tests) in h.before x less ∙ sym (ap (λ (t : Bool). if t then b else get_or old x 0) k))
+      | inl less ↦ (let k : is_among first count x ≡ false = grind (arith, nat_tests) in h.before x less ∙ sym
+          (ap (λ (t : Bool). if t then b else get_or old x 0) k))
       | inr ge ↦ elim (cases_lt x (first + count)) [
-        | inl in_range ↦ (let k : is_among first count x ≡ true = grind (arith, nat_tests) in h.inside x ge in_range ∙ sym (ap (λ (t : Bool). if t then b else get_or old x 0) k))
-        | inr past ↦ (let k : is_among first count x ≡ false = grind (arith, nat_tests) in h.after x past ∙ sym (ap (λ (t : Bool). if t then b else get_or old x 0) k))
+        | inl in_range ↦ (let k : is_among first count x ≡ true = grind (arith, nat_tests) in h.inside x ge in_range ∙ sym
+            (ap (λ (t : Bool). if t then b else get_or old x 0) k))
+        | inr past ↦ (let k : is_among first count x ≡ false = grind (arith, nat_tests) in h.after x past ∙ sym
+            (ap (λ (t : Bool). if t then b else get_or old x 0) k))
       ]
     ]

@@ -1,5 +1,6 @@
 -- Registers whose facts are carried from block to block.
-use Rattle.std.specs.Prelude.{◌≡◌, ◌≢◌, ℕ, ◌+◌, ◌<◌, ◌≤◌, ◌||◌, ◌&&◌, Bool, true, false, not, List, [], ◌∷◌, Option, Some, None, length, option_map, slice_get, slice_index_or}
+use Rattle.std.specs.Prelude.{◌≡◌, ◌≢◌, ℕ, ◌+◌, ◌<◌, ◌≤◌, ◌||◌, ◌&&◌, Bool, true, false, not, List, [], ◌∷◌, Option, Some, None, length, option_map}
+use Rattle.std.specs.Prelude.{slice_get, slice_index_or}
 use Rattle.il_core.specs.declared.instr.Block.{Block}
 use Rattle.il_core.specs.declared.instr.End.{End}
 use Rattle.il_core.specs.declared.instr.Instr.{Instr}
@@ -30,7 +31,8 @@ row_of rows b = slice_index_or rows b []
 -- `loop` goes there, unless an instruction here writes them.
 pub record Takes (n : ℕ) (looped : List Bool) (rows : List (List ℕ)) (block : Block) (mine : List ℕ) : Type 0 where
   pub needed : (x : ℕ) → x < n → needs block x ≡ true → StandsIn mine x
-  pub passed : (t x : ℕ) → x < n → jumps_to block.end t ≡ true → slice_index_or looped t false ≡ false → any_writes block.instrs x ≡ false → StandsIn (row_of rows t) x → StandsIn mine x
+  pub passed : (t x : ℕ) → x < n → jumps_to block.end t ≡ true → slice_index_or looped t false ≡ false → any_writes block.instrs x ≡ false
+      → StandsIn (row_of rows t) x → StandsIn mine x
 
 -- the same, and no others than these n are among them
 pub record IsTaken (n : ℕ) (looped : List Bool) (rows : List (List ℕ)) (block : Block) (mine : List ℕ) : Type 0 where
@@ -40,7 +42,8 @@ pub record IsTaken (n : ℕ) (looped : List Bool) (rows : List (List ℕ)) (bloc
 -- block b takes so from the blocks behind it
 pub record TakesHere (n : ℕ) (looped : List Bool) (rows : List (List ℕ)) (b : ℕ) (block : Block) : Type 0 where
   pub needed : (x : ℕ) → x < n → needs block x ≡ true → StandsIn (row_of rows b) x
-  pub passed : (t x : ℕ) → b < t → x < n → jumps_to block.end t ≡ true → slice_index_or looped t false ≡ false → any_writes block.instrs x ≡ false → StandsIn (row_of rows t) x
+  pub passed : (t x : ℕ) → b < t → x < n → jumps_to block.end t ≡ true → slice_index_or looped t false ≡ false → any_writes block.instrs x ≡ false
+      → StandsIn (row_of rows t) x
       → StandsIn (row_of rows b) x
 
 -- each block does

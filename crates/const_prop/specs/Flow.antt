@@ -1,5 +1,6 @@
 -- Facts on their way from block to block.
-use Rattle.std.specs.Prelude.{◌≡◌, ◌≢◌, ℕ, ◌<◌, ◌≤◌, ◌||◌, Bool, true, false, List, [], Option, Some, None, length, slice_index_or, ⊤, nat_lt, if◌then◌else◌, option_map}
+use Rattle.std.specs.Prelude.{◌≡◌, ◌≢◌, ℕ, ◌<◌, ◌≤◌, ◌||◌, Bool, true, false, List, [], Option, Some, None, length, slice_index_or, ⊤, nat_lt}
+use Rattle.std.specs.Prelude.{if◌then◌else◌, option_map}
 use Rattle.il_core.specs.declared.instr.Block.{Block}
 use Rattle.il_core.specs.declared.instr.End.{End}
 use Rattle.il_core.specs.Routine.{RoutineParts}

@@ -148,7 +148,8 @@ impl Taking {
         requires { IsTaking (length self.old.takers.items) self.old }
         ensures taking { OnOk result (IsTaking (length self.old.takers.items) self.new) }
         ensures took { OnOk result (Took self.old self.new) }
-        ensures row { OnOk result (slice_index_or looped.now t false ≡ false → TookRow (length self.old.takers.items) (slice_index_or rows.now t []) self.old self.new) }
+        ensures row { OnOk result (slice_index_or looped.now t false ≡ false
+            → TookRow (length self.old.takers.items) (slice_index_or rows.now t []) self.old self.new) }
     {
         let t = t as usize;
         if t >= rows.len() || (t < looped.len() && looped[t]) {
@@ -200,7 +201,8 @@ impl Taking {
         requires { IsTaking (length self.old.takers.items) self.old }
         ensures taking { OnOk result (IsTaking (length self.old.takers.items) self.new) }
         ensures took { OnOk result (Took self.old self.new) }
-        ensures here { OnOk result (register < length self.old.takers.items → slice_index_or self.old.writers.items register 0 ≢ self.old.stamp → StandsIn self.new.row.items register) }
+        ensures here { OnOk result (register < length self.old.takers.items → slice_index_or self.old.writers.items register 0 ≢ self.old.stamp
+            → StandsIn self.new.row.items register) }
     {
         let x = register as usize;
         if x >= self.takers.len() || self.writers[x] == self.stamp || self.takers[x] == self.stamp {

@@ -12,7 +12,8 @@ use Rattle.il_core.specs.declared.instr.End.TheVariants as ends
 use Rattle.il_core.specs.declared.program.IlProgram.{IlProgram}
 use Rattle.il_core.specs.Routine.{RoutineParts}
 use Rattle.il_core.specs.Program.{routine_at}
-use Rattle.il_core.specs.World.{World, OutOfTurns, Outcome, Returns, Ends, Stuck, ended, first_byte, after_get, low_byte, after_put, turn, turn_at, choose, put_element, with_object, each, with_word, with_return}
+use Rattle.il_core.specs.World.{World, OutOfTurns, Outcome, Returns, Ends, Stuck, ended, first_byte, after_get, low_byte, after_put, turn, turn_at}
+use Rattle.il_core.specs.World.{choose, put_element, with_object, each, with_word, with_return}
 use Rattle.il_core.specs.Meaning.{Frame, with_reg, frame_of, cleared, received, Lengths, lengths, Next, step, finish, no_log, begin, exec, act_noting}
 use Rattle.il_laws.specs.Runs.{Calls, silent, does, pass, turned, called, Callable, IsCallIn, CallsIn, BlocksCallIn}
 use Rattle.il_laws.proofs.Silent.{enter_silent}

@@ -1,5 +1,6 @@
 -- A clone does what its callee does from each frame that has the constants.
-use Rattle.std.proofs.Common.{◌≡◌, ℕ, zero, suc, ◌<◌, ◌≤◌, List, [], ◌∷◌, ◌++◌, Bool, true, false, refl, ap, ap₂, sym, ◌∙◌, arith, length, slice_get, eqb-true, lt-ltb}
+use Rattle.std.proofs.Common.{◌≡◌, ℕ, zero, suc, ◌<◌, ◌≤◌, List, [], ◌∷◌, ◌++◌, Bool, true, false, refl, ap, ap₂, sym, ◌∙◌, arith, length, slice_get}
+use Rattle.std.proofs.Common.{eqb-true, lt-ltb}
 use Rattle.std.specs.Prelude.{nat_eq, if◌then◌else◌, ◌||◌, Some, get_or}
 use Rattle.std.specs.List.{AllByRecursion}
 use Rattle.std.proofs.lemmas.Option.{none-some, same_Some}

@@ -1,5 +1,6 @@
 -- Leaving out dead writes makes a routine that serves.
-use Rattle.std.proofs.Common.{◌≡◌, ℕ, zero, suc, ◌+◌, ◌-◌, ◌<◌, List, [], ◌∷◌, Bool, true, false, refl, ap, ap₂, subst, sym, ◌∙◌, arith, length, slice_get, eq-eqb}
+use Rattle.std.proofs.Common.{◌≡◌, ℕ, zero, suc, ◌+◌, ◌-◌, ◌<◌, List, [], ◌∷◌, Bool, true, false, refl, ap, ap₂, subst, sym, ◌∙◌, arith, length}
+use Rattle.std.proofs.Common.{slice_get, eq-eqb}
 use Rattle.std.specs.Prelude.{nat_eq, if◌then◌else◌, ◌||◌, Some, None, get_or}
 use Rattle.std.specs.List.{AllByRecursion}
 use Rattle.std.proofs.lemmas.Option.{none-some, same_Some}

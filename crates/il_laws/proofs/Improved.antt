@@ -1,5 +1,6 @@
 -- A routine whose instructions are changed by what is known before them does the same.
-use Rattle.std.proofs.Common.{◌≡◌, ℕ, zero, suc, ◌+◌, ◌<◌, ◌≤◌, ◌⊎◌, List, [], ◌∷◌, Bool, true, false, refl, ap, subst, sym, ◌∙◌, arith, length, slice_get, eq-eqb, eqb-true, inl, inr}
+use Rattle.std.proofs.Common.{◌≡◌, ℕ, zero, suc, ◌+◌, ◌<◌, ◌≤◌, ◌⊎◌, List, [], ◌∷◌, Bool, true, false, refl, ap, subst, sym, ◌∙◌, arith, length}
+use Rattle.std.proofs.Common.{slice_get, eq-eqb, eqb-true, inl, inr}
 use Rattle.std.specs.Prelude.{nat_eq, if◌then◌else◌, ◌||◌, Option, Some, None, ⊤, get_or}
 use Rattle.std.proofs.lemmas.Bool.{false≢true}
 use Rattle.std.proofs.lemmas.Option.{none-some, same_Some}

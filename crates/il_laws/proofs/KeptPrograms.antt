@@ -17,7 +17,8 @@ use Rattle.il_laws.specs.ReachLaws.{IsPruned}
 use Rattle.il_laws.specs.Runs.{BlocksCallIn}
 use Rattle.il_core.proofs.Found.{found_number}
 use Rattle.il_laws.proofs.Grown.{all_of, all_to}
-use Rattle.il_laws.proofs.Kept.{all_both, filter_all, filter_pass, filter_length, filter_rising, filter_names, filter_contains, found_filter, found_back, rising_up}
+use Rattle.il_laws.proofs.Kept.{all_both, filter_all, filter_pass, filter_length, filter_rising, filter_names, filter_contains, found_filter}
+use Rattle.il_laws.proofs.Kept.{found_back, rising_up}
 use Rattle.il_laws.proofs.KeptRows.{count_left}
 use Rattle.il_laws.proofs.Main.{main_of_row}
 use Rattle.il_laws.proofs.ReachClosed.{live_calls, main_live}

@@ -1,5 +1,6 @@
 -- A block may take in the one that it alone jumps to.
-use Rattle.std.proofs.Common.{◌≡◌, ℕ, zero, suc, ◌<◌, ◌≤◌, List, [], ◌∷◌, map, Bool, true, false, refl, ap, subst, sym, ◌∙◌, arith, length, slice_get, inl, inr, eqb-true}
+use Rattle.std.proofs.Common.{◌≡◌, ℕ, zero, suc, ◌<◌, ◌≤◌, List, [], ◌∷◌, map, Bool, true, false, refl, ap, subst, sym, ◌∙◌, arith, length, slice_get}
+use Rattle.std.proofs.Common.{inl, inr, eqb-true}
 use Rattle.std.specs.Prelude.{nat_eq, ◌&&◌, if◌then◌else◌, Option, Some, None, get_or}
 use Rattle.std.proofs.lemmas.Bool.{cases_eq}
 use Rattle.std.proofs.lemmas.Option.{none-some, same_Some}

@@ -1,5 +1,6 @@
 -- Instructions under other names do the same where the registers and arrays that they name hold the same.
-use Rattle.std.proofs.Common.{◌≡◌, ℕ, zero, suc, ◌+◌, ◌<◌, ◌≤◌, List, [], ◌∷◌, map, option_map, Bool, true, false, refl, ap, ap₂, sym, ◌∙◌, arith, ne_eqb, eq-eqb, eqb-true}
+use Rattle.std.proofs.Common.{◌≡◌, ℕ, zero, suc, ◌+◌, ◌<◌, ◌≤◌, List, [], ◌∷◌, map, option_map, Bool, true, false, refl, ap, ap₂, sym, ◌∙◌, arith}
+use Rattle.std.proofs.Common.{ne_eqb, eq-eqb, eqb-true}
 use Rattle.std.specs.Prelude.{nat_eq, if◌then◌else◌, Option, Some, None, Result, Ok, Err}
 use Rattle.std.specs.List.{AllByRecursion}
 use Rattle.std.proofs.lemmas.Bool.{eqb-false}
@@ -11,7 +12,8 @@ use Rattle.il_core.specs.declared.instr.Instr.{Instr}
 use Rattle.il_core.specs.declared.instr.Instr.TheVariants.{Const, Move, Conv, Bin, Get, Set, GetX, SetX, GetA, SetA, Clear, Turn, Call, GetChar, PutChar}
 use Rattle.il_core.specs.declared.shape.ShapeRow.{ShapeRow}
 use Rattle.il_core.specs.Valid.{IsValidInstr}
-use Rattle.il_core.specs.World.{World, OutOfTurns, Outcome, Returns, Ends, Stuck, ended, first_byte, after_get, low_byte, after_put, turn_at, put, put_element, with_object, each, with_word, within, with_return}
+use Rattle.il_core.specs.World.{World, OutOfTurns, Outcome, Returns, Ends, Stuck, ended, first_byte, after_get, low_byte, after_put, turn_at, put}
+use Rattle.il_core.specs.World.{put_element, with_object, each, with_word, within, with_return}
 use Rattle.il_core.specs.Meaning.{Frame, with_reg, cleared, is_among, received, Lengths, Next, step}
 use Rattle.il_core.specs.Operands.{Names, as_is, renamed}
 use Rattle.il_core.proofs.Renaming.{renamed_as_is}

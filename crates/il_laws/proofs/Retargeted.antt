@@ -1,5 +1,6 @@
 -- Calls may go to clones of right rows whose constants are known there.
-use Rattle.std.proofs.Common.{◌≡◌, ℕ, zero, suc, ◌+◌, ◌<◌, ◌⊎◌, List, [], ◌∷◌, ◌++◌, append_assoc, map, Bool, true, false, refl, ap, subst, sym, ◌∙◌, arith, length, slice_get, inl, inr, eqb-true}
+use Rattle.std.proofs.Common.{◌≡◌, ℕ, zero, suc, ◌+◌, ◌<◌, ◌⊎◌, List, [], ◌∷◌, ◌++◌, append_assoc, map, Bool, true, false, refl, ap, subst, sym, ◌∙◌}
+use Rattle.std.proofs.Common.{arith, length, slice_get, inl, inr, eqb-true}
 use Rattle.std.specs.Prelude.{Option, Some, None, ⊤, if◌then◌else◌, nat_eq}
 use Rattle.std.specs.List.{AllByRecursion}
 use Rattle.std.proofs.lemmas.Option.{none-some, same_Some, slice_get_within}

@@ -6,7 +6,8 @@ use Rattle.hlo_num.specs.Operators.{operate}
 use Rattle.hlo_num.specs.Words.{convert}
 use Rattle.il_core.specs.declared.instr.Instr.{Instr}
 use Rattle.il_core.specs.declared.instr.Instr.TheVariants.{Const, Move, Conv, Bin, Get, Set, GetX, SetX, GetA, SetA, Clear, Turn, Call, GetChar, PutChar}
-use Rattle.il_core.specs.World.{World, OutOfTurns, Outcome, Returns, Ends, Stuck, ended, first_byte, after_get, low_byte, after_put, turn_at, put_element, with_object, each, with_word, within, with_return}
+use Rattle.il_core.specs.World.{World, OutOfTurns, Outcome, Returns, Ends, Stuck, ended, first_byte, after_get, low_byte, after_put, turn_at}
+use Rattle.il_core.specs.World.{put_element, with_object, each, with_word, within, with_return}
 use Rattle.il_core.specs.Meaning.{Frame, with_reg, cleared, received, Lengths, Next, step}
 use Rattle.il_laws.specs.Runs.{Calls, silent, does}
 use Rattle.il_laws.proofs.Alike.{Falls, CallsAlike, anything}

@@ -1,5 +1,6 @@
 -- A caller with its callee spliced at a site does what it did.
-use Rattle.std.proofs.Common.{◌≡◌, ℕ, zero, suc, ◌+◌, ◌-◌, ◌<◌, ◌≤◌, List, [], ◌∷◌, map, Bool, true, false, refl, ap, ap₂, subst, sym, ◌∙◌, arith, length, slice_get, ne_eqb, eq-eqb, lt-ltb, inl, inr}
+use Rattle.std.proofs.Common.{◌≡◌, ℕ, zero, suc, ◌+◌, ◌-◌, ◌<◌, ◌≤◌, List, [], ◌∷◌, map, Bool, true, false, refl, ap, ap₂, subst, sym, ◌∙◌, arith}
+use Rattle.std.proofs.Common.{length, slice_get, ne_eqb, eq-eqb, lt-ltb, inl, inr}
 use Rattle.std.specs.Prelude.{if◌then◌else◌, Option, Some, None, get_or}
 use Rattle.std.specs.List.{AllByRecursion}
 use Rattle.std.proofs.lemmas.Bool.{cases_lt, cases_order, le-ltb}

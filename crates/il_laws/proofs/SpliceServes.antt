@@ -1,5 +1,6 @@
 -- What is spliced at a site serves in a valid program, where the body may stand in the callee's place.
-use Rattle.std.proofs.Common.{◌≡◌, ℕ, ◌+◌, ◌<◌, List, [], ◌∷◌, map, Bool, true, false, refl, ap, subst, sym, ◌∙◌, arith, length, slice_get, get_or-append-add, eqb-true}
+use Rattle.std.proofs.Common.{◌≡◌, ℕ, ◌+◌, ◌<◌, List, [], ◌∷◌, map, Bool, true, false, refl, ap, subst, sym, ◌∙◌, arith, length, slice_get}
+use Rattle.std.proofs.Common.{get_or-append-add, eqb-true}
 use Rattle.std.specs.Prelude.{nat_eq, if◌then◌else◌, Option, Some}
 use Rattle.std.specs.List.{AllByRecursion}
 use Rattle.std.proofs.lemmas.List.{get_or_append_left}

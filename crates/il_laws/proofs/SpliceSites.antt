@@ -1,5 +1,6 @@
 -- What is found at a site, and that the sites before a splice stay where they are.
-use Rattle.std.proofs.Common.{◌≡◌, ℕ, zero, suc, ◌+◌, ◌-◌, ◌<◌, ◌≤◌, List, [], ◌∷◌, ◌++◌, append_assoc, map, option_map, Bool, true, false, refl, ap, ap₂, subst, sym, ◌∙◌, arith, length, slice_get, lt-ltb, ltb-true}
+use Rattle.std.proofs.Common.{◌≡◌, ℕ, zero, suc, ◌+◌, ◌-◌, ◌<◌, ◌≤◌, List, [], ◌∷◌, ◌++◌, append_assoc, map, option_map, Bool, true, false, refl, ap}
+use Rattle.std.proofs.Common.{ap₂, subst, sym, ◌∙◌, arith, length, slice_get, lt-ltb, ltb-true}
 use Rattle.std.specs.Prelude.{nat_lt, if◌then◌else◌, Option, Some, None}
 use Rattle.std.proofs.lemmas.Bool.{ltb-false, le-ltb}
 use Rattle.std.proofs.lemmas.List.{length-append}
@@ -11,7 +12,8 @@ use Rattle.il_core.specs.Routine.{RoutineParts}
 use Rattle.il_core.specs.Meaning.{sites_in, sites_of}
 use Rattle.il_core.specs.Operands.{callee_of}
 use Rattle.il_laws.specs.Sites.{listed, callees_in, callees}
-use Rattle.il_laws.specs.Splice.{Cut, cut_behind, cut_here, cut_at, Site, site_here, site_behind, site_at, moved_block, entering, resuming, copies, spliced, splice}
+use Rattle.il_laws.specs.Splice.{Cut, cut_behind, cut_here, cut_at, Site, site_here, site_behind, site_at, moved_block, entering, resuming, copies}
+use Rattle.il_laws.specs.Splice.{spliced, splice}
 use Rattle.il_laws.proofs.Lists.{get_within, get_behind}
 use Rattle.il_laws.proofs.SpliceBlocks.{call_of, whole, site_block, blocks_with}
 

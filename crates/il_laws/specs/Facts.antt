@@ -1,5 +1,6 @@
 -- What is known of registers: facts at the start of each block, and through a block.
-use Rattle.std.specs.Prelude.{ℕ, zero, suc, ◌||◌, Bool, List, [], ◌∷◌, Option, Some, None, option_map, nat_eq, nat_lt, if◌then◌else◌, slice_get, Result, Ok, Err}
+use Rattle.std.specs.Prelude.{ℕ, zero, suc, ◌||◌, Bool, List, [], ◌∷◌, Option, Some, None, option_map, nat_eq, nat_lt, if◌then◌else◌, slice_get, Result}
+use Rattle.std.specs.Prelude.{Ok, Err}
 use Rattle.std.specs.List.{list_any}
 use Rattle.hlo_num.specs.declared.word.Trap.{Trap}
 use Rattle.hlo_num.specs.declared.word.Op.{Op}

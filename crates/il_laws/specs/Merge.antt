@@ -1,5 +1,6 @@
 -- Blocks merged: one that ends with a jump takes in the block that it alone goes to.
-use Rattle.std.specs.Prelude.{ℕ, zero, suc, ◌&&◌, Bool, true, false, List, [], ◌∷◌, ◌++◌, length, Option, Some, None, map, nat_eq, nat_le, if◌then◌else◌, slice_get}
+use Rattle.std.specs.Prelude.{ℕ, zero, suc, ◌&&◌, Bool, true, false, List, [], ◌∷◌, ◌++◌, length, Option, Some, None, map, nat_eq, nat_le}
+use Rattle.std.specs.Prelude.{if◌then◌else◌, slice_get}
 use Rattle.il_core.specs.declared.instr.Block.{Block}
 use Rattle.il_core.specs.declared.instr.End.{End}
 use Rattle.il_core.specs.declared.instr.End.TheVariants as ends

@@ -1,5 +1,6 @@
 -- Callers are followed: what one more routine, and one more that hands on, do to the tables.
-use Rattle.std.proofs.Common.{◌≡◌, ℕ, zero, suc, ◌+◌, ◌-◌, ◌*◌, ◌<◌, ◌≤◌, List, [], ◌∷◌, ◌++◌, length, drop, get_or, Bool, true, false, refl, ap, subst, sym, ◌∙◌, arith, eqb-true, eq-eqb, ne_eqb, leb-true}
+use Rattle.std.proofs.Common.{◌≡◌, ℕ, zero, suc, ◌+◌, ◌-◌, ◌*◌, ◌<◌, ◌≤◌, List, [], ◌∷◌, ◌++◌, length, drop, get_or, Bool, true, false, refl, ap, subst}
+use Rattle.std.proofs.Common.{sym, ◌∙◌, arith, eqb-true, eq-eqb, ne_eqb, leb-true}
 use Rattle.std.specs.Prelude.{◌^◌, nat_eq, nat_le, ◌||◌, ◌&&◌, if◌then◌else◌, slice_set, Some, None}
 use Rattle.std.specs.List.{AllByRecursion}
 use Rattle.std.proofs.Math.Nat.{mul-le-mul_left, pow-le-pow_left}
@@ -204,7 +205,8 @@ module _ (cs : Calls) (T : List Numbers) (p q : ℕ) (by : Numbers) (limit : ℕ
         step : (b : Bool) → nat_eq y z ≡ b → has_number (drop (suc next) ks) z ≡ true
         step true e =
             let same = eqb-true y z e in
-            absurd (ne (set_is hs y (number_at ts y) z inside ∙ ap (λ (k : Bool). if k then number_at ts y else number_at hs z) e ∙ ap (λ (k : ℕ). number_at ts k) same))
+            absurd (ne (set_is hs y (number_at ts y) z inside ∙ ap (λ (k : Bool). if k then number_at ts y else number_at hs z) e ∙ ap
+            (λ (k : ℕ). number_at ts k) same))
         step false e =
             let still : number_at (slice_set hs y (number_at ts y)) z ≡ number_at hs z
             = set_is hs y (number_at ts y) z inside ∙ ap (λ (k : Bool). if k then number_at ts y else number_at hs z) e in

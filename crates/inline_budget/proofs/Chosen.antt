@@ -1,5 +1,6 @@
 -- The sites in turn: what is accepted are the calls of the laws' choice.
-use Rattle.std.proofs.Common.{◌≡◌, ℕ, suc, ◌+◌, ◌*◌, ◌<◌, ◌≤◌, List, [], ◌∷◌, ◌++◌, map, length, drop, Bool, true, false, refl, ap, subst, sym, ◌∙◌, arith, eqb-true, eq-eqb, ne_eqb, leb-true}
+use Rattle.std.proofs.Common.{◌≡◌, ℕ, suc, ◌+◌, ◌*◌, ◌<◌, ◌≤◌, List, [], ◌∷◌, ◌++◌, map, length, drop, Bool, true, false, refl, ap, subst, sym, ◌∙◌}
+use Rattle.std.proofs.Common.{arith, eqb-true, eq-eqb, ne_eqb, leb-true}
 use Rattle.std.specs.Prelude.{◌^◌, ◌&&◌, ◌||◌, nat_eq, nat_le, if◌then◌else◌, slice_index_or, Option, Some, None}
 use Rattle.std.specs.List.{AllByRecursion, list_all}
 use Rattle.std.proofs.Math.Nat.{pow-le-pow_left}
@@ -28,7 +29,8 @@ use Rattle.inline_budget.proofs.Levelled.{put_at}
 use Rattle.inline_budget.proofs.Squares.{sum_most}
 use Rattle.inline_budget.proofs.Inlined as inlined
 use Rattle.inline_budget.proofs.Inlined.{AreOnce, IsSite}
-use Rattle.inline_budget.proofs.Decided.{AreSums, IsBrought, IsCandidate, size_measure, register_measure, array_measure, element_measure, refused_may_not, taken_may, taken_sums}
+use Rattle.inline_budget.proofs.Decided.{AreSums, IsBrought, IsCandidate, size_measure, register_measure, array_measure, element_measure}
+use Rattle.inline_budget.proofs.Decided.{refused_may_not, taken_may, taken_sums}
 use Rattle.inline_budget.proofs.Filled.{AreExtras, AreOwn, extra_is, own_cost, own_sums}
 use Rattle.inline_budget.proofs.Ordered.{IsCallSite, count_at, is_at, ranked_once}
 

@@ -1,5 +1,6 @@
 -- Whether a call may be inlined beside the accepted ones, by what the tables say.
-use Rattle.std.proofs.Common.{◌≡◌, ℕ, suc, ◌+◌, ◌-◌, ◌*◌, ◌<◌, ◌≤◌, List, [], ◌∷◌, ◌++◌, length, Bool, true, false, refl, ap, sym, ◌∙◌, arith, eqb-true, eq-eqb, ne_eqb, leb-true, le-leb, ltb-true, ltb-false}
+use Rattle.std.proofs.Common.{◌≡◌, ℕ, suc, ◌+◌, ◌-◌, ◌*◌, ◌<◌, ◌≤◌, List, [], ◌∷◌, ◌++◌, length, Bool, true, false, refl, ap, sym, ◌∙◌, arith, eqb-true}
+use Rattle.std.proofs.Common.{eq-eqb, ne_eqb, leb-true, le-leb, ltb-true, ltb-false}
 use Rattle.std.specs.Prelude.{◌^◌, nat_eq, nat_le, nat_lt, ◌&&◌, if◌then◌else◌, slice_set, Option, Some, None}
 use Rattle.std.specs.List.{AllByRecursion, list_all}
 use Rattle.std.proofs.Math.Nat.{mul-add, mul-le-mul_left, pow-le-pow_left}
@@ -87,7 +88,8 @@ module _ (μ : Measure) (ss : List Summary) (cs : Calls) (T : ℕ → ℕ) (sum 
         let old = sum z in
         let more = sum_append (λ y. (T y + extra_at μ ss y) + d * h y) cs c z in
         let split = sum_scaled (λ y. T y + extra_at μ ss y) h d cs z in
-        let times : d * f z ≡ d * (only_if (nat_eq p z) 1 + calls_sum cs h z) = ap (λ (n : ℕ). d * n) (f_is z ∙ ap (λ (n : ℕ). n + calls_sum cs h z) (swap z)) in
+        let times : d * f z ≡ d * (only_if (nat_eq p z) 1 + calls_sum cs h z) = ap (λ (n : ℕ). d * n) (f_is z ∙ ap (λ (n : ℕ). n + calls_sum cs h z) (swap z))
+        in
         let parts = mul-add d (only_if (nat_eq p z) 1) (calls_sum cs h z) in
         let one = last (nat_eq p z) in
         omega arith
@@ -217,7 +219,8 @@ pub here_all : (ss : List Summary) → AreApart ss → AllByRecursion (λ s. sum
 here_all [] h = tt
 here_all (s ∷ ss) h = (
   ap (λ (b : Bool). if b then Some s else summary_at ss s.pid) (eq-eqb s.pid s.pid refl),
-  all_to (λ (q : Summary). summary_at ss q.pid ≡ Some q) (λ q. summary_at (s ∷ ss) q.pid ≡ Some q) ss (λ q e. behind q e (nat_eq s.pid q.pid) refl) (here_all ss h.1),
+  all_to (λ (q : Summary). summary_at ss q.pid ≡ Some q) (λ q. summary_at (s ∷ ss) q.pid ≡ Some q) ss (λ q e. behind q e (nat_eq s.pid q.pid) refl)
+      (here_all ss h.1),
 )
   where
     behind : (q : Summary) → summary_at ss q.pid ≡ Some q → (b : Bool) → nat_eq s.pid q.pid ≡ b → (if b then Some s else summary_at ss q.pid) ≡ Some q
@@ -354,7 +357,8 @@ module _ (ss : List Summary) (cs : Calls) (T : List Numbers) (p k q : ℕ) (by :
             let le = x_full in
             let same : t ≡ number_at r.ts r.x = zero_both (omega arith) (omega arith) in
             let is : plan.is_within (plain (grown (numbers_at T r.x) by t)) ≡ true
-            = ap (λ (n : ℕ). plan.is_within (plain (grown (numbers_at T r.x) by n))) same ∙ is_within_of (grown (numbers_at T r.x) by (number_at r.ts r.x)) (a.within r.x) in
+            = ap (λ (n : ℕ). plan.is_within (plain (grown (numbers_at T r.x) by n))) same ∙ is_within_of (grown (numbers_at T r.x) by (number_at r.ts r.x))
+            (a.within r.x) in
             let wrong : true ≡ false = sym is ∙ bad in absurd cc
           where
             zero_both : t ≡ 0 → number_at r.ts r.x ≡ 0 → t ≡ number_at r.ts r.x
@@ -446,7 +450,8 @@ module _ (ss : List Summary) (cs : Calls) (T : List Numbers) (p k q : ℕ) (by :
                     → r.room < rise (grown (numbers_at T r.x) by (number_at r.ts r.x)).size (grown (numbers_at T r.x) by t).size
                 above e = not_le (rise (grown (numbers_at T r.x) by (number_at r.ts r.x)).size (grown (numbers_at T r.x) by t).size) r.room e
             refuse false true true ei ej el g =
-                let bad : Some (r.room - rise (grown (numbers_at T r.x) by (number_at r.ts r.x)).size (grown (numbers_at T r.x) by t).size) ≡ None = g in absurd cc
+                let bad : Some (r.room - rise (grown (numbers_at T r.x) by (number_at r.ts r.x)).size (grown (numbers_at T r.x) by t).size) ≡ None = g
+                in absurd cc
 
   -- what is refused may not be inlined
   pub refused_may_not : IsRefused cs T p q by limit → may_inline ss limit ds ≡ false

@@ -1,5 +1,6 @@
 -- What the loop over the queue takes from the tables.
-use Rattle.std.proofs.Common.{◌≡◌, ℕ, zero, suc, ◌+◌, ◌-◌, ◌<◌, ◌≤◌, List, [], ◌∷◌, length, get_or, Bool, true, false, Result, Ok, Err, refl, ap, subst, sym, ◌∙◌, arith}
+use Rattle.std.proofs.Common.{◌≡◌, ℕ, zero, suc, ◌+◌, ◌-◌, ◌<◌, ◌≤◌, List, [], ◌∷◌, length, get_or, Bool, true, false, Result, Ok, Err, refl, ap, subst}
+use Rattle.std.proofs.Common.{sym, ◌∙◌, arith}
 use Rattle.std.specs.Prelude.{slice_set, slice_index_or, IfOk}
 use Rattle.std.proofs.lemmas.Result.{IfOk-weaker}
 use Rattle.inline_budget.proofs.Levelled.{any_default}
@@ -18,7 +19,8 @@ module _ (T : List Numbers) (q : ℕ) (by : Numbers) (ts hs ks : List ℕ) (room
   hands_nothing none cs p limit next lt is xs_are h =
       attempt_passed cs T p q by limit ts hs ks next room 0 h lt y is inside more more_is none
 
-  pub hands_more : (us fs js : List ℕ) (now : ℕ) → fs ≡ gs → 0 < more → Raises T q by ts gs ks room more xs us js now → Hands T q by ts hs ks room y xs us fs js now
+  pub hands_more : (us fs js : List ℕ) (now : ℕ) → fs ≡ gs → 0 < more → Raises T q by ts gs ks room more xs us js now
+      → Hands T q by ts hs ks room y xs us fs js now
   hands_more us fs js now same some raises cs p limit next lt is xs_are h =
       subst (λ (es : List ℕ). IsAttempt cs T p q by limit us es js (suc next) now 0 []) (sym same)
       (raises cs p limit (suc next) (omega arith) (attempt_handed cs T p q by limit ts hs ks next room 0 h lt y is inside more more_is xs xs_are some))
@@ -71,9 +73,11 @@ module _ (T : List Numbers) (q : ℕ) (by : Numbers) (ts hs ks : List ℕ) (room
 
 -- ---- the loop
 
-pub record IsFollowing (T : List Numbers) (q : ℕ) (by : Numbers) (lists : List (List ℕ)) (ts hs ks : List ℕ) (room : ℕ) (us gs js : List ℕ) (next now : ℕ) : Type 0 where
+pub record IsFollowing (T : List Numbers) (q : ℕ) (by : Numbers) (lists : List (List ℕ)) (ts hs ks : List ℕ) (room : ℕ) (us gs js : List ℕ) (next now : ℕ) :
+    Type 0 where
   pub ready : IsReady T us gs js
-  pub attempt : (cs : Calls) (p limit : ℕ) → AreCallers cs lists → IsAttempt cs T p q by limit ts hs ks 0 room 0 [] → IsAttempt cs T p q by limit us gs js next now 0 []
+  pub attempt : (cs : Calls) (p limit : ℕ) → AreCallers cs lists → IsAttempt cs T p q by limit ts hs ks 0 room 0 []
+      → IsAttempt cs T p q by limit us gs js next now 0 []
   pub within : next ≤ length js
 
 module _ (T : List Numbers) (q : ℕ) (by : Numbers) (lists : List (List ℕ)) (ts hs ks : List ℕ) (room : ℕ) where

@@ -1,5 +1,6 @@
 -- The numbers that the laws compute, as sums over accepted calls.
-use Rattle.std.proofs.Common.{◌≡◌, ℕ, zero, suc, ◌+◌, ◌<◌, ◌≤◌, List, [], ◌∷◌, Bool, true, false, refl, ap, sym, ◌∙◌, arith, slice_get, eqb-true, eq-eqb, ne_eqb}
+use Rattle.std.proofs.Common.{◌≡◌, ℕ, zero, suc, ◌+◌, ◌<◌, ◌≤◌, List, [], ◌∷◌, Bool, true, false, refl, ap, sym, ◌∙◌, arith, slice_get, eqb-true}
+use Rattle.std.proofs.Common.{eq-eqb, ne_eqb}
 use Rattle.std.specs.Prelude.{nat_eq, ◌||◌, ◌&&◌, Option, Some, None, ⊤}
 use Rattle.std.specs.List.{AllByRecursion}
 use Rattle.il_core.proofs.Found.{found_number}
@@ -108,7 +109,8 @@ module _ (μ : Measure) where
     hit_past c pid k (x ∷ xs) lt =
         let rest = hit_past c pid (suc k) xs (omega arith) in
         let one : only_if (nat_eq c.caller pid && nat_eq c.site k) (w x.callee) ≡ 0
-        = ap (λ (b : Bool). only_if (nat_eq c.caller pid && b) (w x.callee)) (ne_eqb c.site k (λ same. absurd (omega arith))) ∙ and_none (nat_eq c.caller pid) in
+        = ap (λ (b : Bool). only_if (nat_eq c.caller pid && b) (w x.callee)) (ne_eqb c.site k (λ same. absurd (omega arith))) ∙ and_none (nat_eq c.caller pid)
+        in
         omega arith
       where
         and_none : (b : Bool) → only_if (b && false) (w x.callee) ≡ 0
@@ -130,7 +132,8 @@ module _ (μ : Measure) where
     hit_at c pid k (suc i) (x ∷ xs) e at h =
         let rest = hit_at c pid (suc k) i xs e (omega arith) (record { site = h.site; at = h.at; callee = h.callee }) in
         let one : only_if (nat_eq c.caller pid && nat_eq c.site k) (w x.callee) ≡ 0
-        = ap (λ (b : Bool). only_if (nat_eq c.caller pid && b) (w x.callee)) (ne_eqb c.site k (λ same. absurd (omega arith))) ∙ and_none (nat_eq c.caller pid) in
+        = ap (λ (b : Bool). only_if (nat_eq c.caller pid && b) (w x.callee)) (ne_eqb c.site k (λ same. absurd (omega arith))) ∙ and_none (nat_eq c.caller pid)
+        in
         omega arith
       where
         and_none : (b : Bool) → only_if (b && false) (w x.callee) ≡ 0

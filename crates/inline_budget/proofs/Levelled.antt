@@ -1,8 +1,10 @@
 -- The levels that are found are those of the laws.
-use Rattle.std.proofs.Common.{◌≡◌, ℕ, zero, suc, ◌+◌, ◌-◌, ◌<◌, ◌≤◌, List, [], ◌∷◌, ◌++◌, length, take, get_or, replicate, Bool, true, false, refl, ap, subst, sym, ◌∙◌, arith, eqb-true, eq-eqb, ne_eqb, ltb-true, ltb-false}
+use Rattle.std.proofs.Common.{◌≡◌, ℕ, zero, suc, ◌+◌, ◌-◌, ◌<◌, ◌≤◌, List, [], ◌∷◌, ◌++◌, length, take, get_or, replicate, Bool, true, false, refl, ap}
+use Rattle.std.proofs.Common.{subst, sym, ◌∙◌, arith, eqb-true, eq-eqb, ne_eqb, ltb-true, ltb-false}
 use Rattle.std.specs.Prelude.{max, nat_eq, nat_lt, not, ◌||◌, if◌then◌else◌, filter, slice_index_or, slice_set, sum_by}
 use Rattle.std.specs.List.{AllByRecursion}
-use Rattle.std.proofs.lemmas.List.{take_all, take-append-le, append_assoc, append-nil, length-append, length-replicate, length-set, get_or-set_same, get_or-set_other}
+use Rattle.std.proofs.lemmas.List.{take_all, take-append-le, append_assoc, append-nil, length-append, length-replicate, length-set, get_or-set_same}
+use Rattle.std.proofs.lemmas.List.{get_or-set_other}
 use Rattle.il_laws.proofs.Grown.{all_to}
 use Rattle.il_laws.proofs.Kept.{all_both}
 use Rattle.plan_laws.specs.Orders.{greatest}

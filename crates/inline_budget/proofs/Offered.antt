@@ -1,5 +1,6 @@
 -- What the loop over the ranked sites takes from the tables.
-use Rattle.std.proofs.Common.{◌≡◌, ℕ, zero, suc, ◌+◌, ◌<◌, ◌≤◌, List, [], ◌∷◌, ◌++◌, map, length, drop, take, replicate, true, false, refl, ap, ap₂, subst, sym, ◌∙◌, arith}
+use Rattle.std.proofs.Common.{◌≡◌, ℕ, zero, suc, ◌+◌, ◌<◌, ◌≤◌, List, [], ◌∷◌, ◌++◌, map, length, drop, take, replicate, true, false, refl, ap, ap₂}
+use Rattle.std.proofs.Common.{subst, sym, ◌∙◌, arith}
 use Rattle.std.specs.Prelude.{slice_index_or}
 use Rattle.std.specs.List.{AllByRecursion}
 use Rattle.std.proofs.lemmas.List.{append-nil, drop_all, take_all, length-map, length-replicate}
@@ -18,7 +19,8 @@ use Rattle.inline_budget.specs.Tables.{brought, extra_of, own_of, written}
 use Rattle.inline_budget.proofs.Filed.{empty_at}
 use Rattle.inline_budget.proofs.Filled.{AreExtras, AreOwn, empty_there, filled_at, own_within, written_length}
 use Rattle.inline_budget.proofs.Ordered.{IsCallSite, ranked_good}
-use Rattle.inline_budget.proofs.Chosen.{IsChoosing, choosing_first, choosing_passed, choosing_refused, choosing_taken, choosing_end, callers_inside, has_calls, caller_inside, callee_inside, brief_is}
+use Rattle.inline_budget.proofs.Chosen.{IsChoosing, choosing_first, choosing_passed, choosing_refused, choosing_taken, choosing_end, callers_inside}
+use Rattle.inline_budget.proofs.Chosen.{has_calls, caller_inside, callee_inside, brief_is}
 
 abbrev nothing : List ℕ
 nothing = []

@@ -1,5 +1,6 @@
 -- What the loop over callers takes from the tables.
-use Rattle.std.proofs.Common.{◌≡◌, ℕ, suc, ◌+◌, ◌*◌, ◌<◌, ◌≤◌, List, [], ◌∷◌, ◌++◌, length, drop, get_or, Bool, true, false, refl, ap, subst, sym, ◌∙◌, arith, eqb-true}
+use Rattle.std.proofs.Common.{◌≡◌, ℕ, suc, ◌+◌, ◌*◌, ◌<◌, ◌≤◌, List, [], ◌∷◌, ◌++◌, length, drop, get_or, Bool, true, false, refl, ap, subst, sym, ◌∙◌}
+use Rattle.std.proofs.Common.{arith, eqb-true}
 use Rattle.std.specs.Prelude.{◌^◌, nat_eq, if◌then◌else◌, slice_set, Some, None}
 use Rattle.std.specs.List.{AllByRecursion}
 use Rattle.std.proofs.Math.Nat.{mul-add, mul-le-mul_right, pow-lt-pow_left}
@@ -160,9 +161,11 @@ module _ (T : List Numbers) (q : ℕ) (by : Numbers) (brief : AreBrief by) (ts h
         let next : suc i ≡ i + 1 = omega arith in
         subst (λ (n : ℕ). IsRaising T q by ts hs ks room m xs vs is left (drop n xs)) next
         (subst (λ (zs : List ℕ). IsRaising T q by ts hs ks room m xs zs is left (drop (suc i) xs)) (sym ev)
-        (subst (λ (zs : List ℕ). IsRaising T q by ts hs ks room m xs (slice_set us (get_or xs i d) (number_at us (get_or xs i d) + m)) zs left (drop (suc i) xs))
+        (subst (λ (zs : List ℕ). IsRaising T q by ts hs ks room m xs (slice_set us (get_or xs i d) (number_at us (get_or xs i d) + m)) zs left
+        (drop (suc i) xs))
         (sym ei)
-        (raising_step T q by brief ts hs ks room m xs us js now (get_or xs i d) (drop (suc i) xs) here (all_at (λ x. x < length T) xs i d inside lt) left e some)))
+        (raising_step T q by brief ts hs ks room m xs us js now (get_or xs i d) (drop (suc i) xs) here (all_at (λ x. x < length T) xs i d inside lt) left e
+        some)))
 
     pub refused_here : room_after T by q us now (get_or xs i d) m ≡ None → Refuses T q by ts hs ks room m xs
     refused_here e =
@@ -188,7 +191,8 @@ ready_handed T ts hs ks y h lt =
     }
   where
     below : (z : ℕ) (b : Bool) → nat_eq y z ≡ b → number_at (slice_set hs y (number_at ts y)) z ≤ number_at ts z
-    below z b g = by_test b (set_is hs y (number_at ts y) z (let size = h.handed in omega arith) ∙ ap (λ (k : Bool). if k then number_at ts y else number_at hs z) g) g
+    below z b g = by_test b (set_is hs y (number_at ts y) z (let size = h.handed in omega arith) ∙ ap
+        (λ (k : Bool). if k then number_at ts y else number_at hs z) g) g
       where
         by_test : (b : Bool) → number_at (slice_set hs y (number_at ts y)) z ≡ (if b then number_at ts y else number_at hs z) → nat_eq y z ≡ b
             → number_at (slice_set hs y (number_at ts y)) z ≤ number_at ts z

@@ -6,7 +6,8 @@ use Rattle.plan_laws.specs.Levels.{calls_from, chain, level, is_acyclic}
 use Rattle.plan_laws.specs.Orders.{greatest}
 use Rattle.inline_budget.specs.Calls.{Calls, callers_of, number_at}
 use Rattle.inline_budget.specs.Levelling.{filed, counted, lowered_all, risen_all, noted_all, zeros, bound_of}
-use Rattle.inline_budget.proofs.Levelled.{AreBelow, IsFinding, known_left, known_level, inside, found_more, found_less, all_exact, calls_below, callers_at, any_default, found_first}
+use Rattle.inline_budget.proofs.Levelled.{AreBelow, IsFinding, known_left, known_level, inside, found_more, found_less, all_exact, calls_below}
+use Rattle.inline_budget.proofs.Levelled.{callers_at, any_default, found_first}
 
 most_chain : (cs : Calls) (n : ℕ) (xs : Calls) → ((q : ℕ) → chain cs n q ≤ n) → greatest (λ c. suc (chain cs n c.callee)) xs ≤ suc n
 most_chain cs n [] h = omega arith

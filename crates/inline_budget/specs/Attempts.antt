@@ -1,5 +1,6 @@
 -- A call that may be inlined: how often its callee's numbers come to each routine, found from its caller on.
-use Rattle.std.specs.Prelude.{◌≡◌, ℕ, ◌+◌, ◌-◌, ◌*◌, ◌^◌, ◌<◌, ◌≤◌, true, length, List, [], ◌∷◌, Option, Some, None, drop, nat_eq, nat_le, if◌then◌else◌, slice_index_or}
+use Rattle.std.specs.Prelude.{◌≡◌, ℕ, ◌+◌, ◌-◌, ◌*◌, ◌^◌, ◌<◌, ◌≤◌, true, length, List, [], ◌∷◌, Option, Some, None, drop, nat_eq, nat_le}
+use Rattle.std.specs.Prelude.{if◌then◌else◌, slice_index_or}
 use Rattle.std.specs.List.{AllByRecursion}
 use Rattle.il_core.specs.Limits.{max_arrays, max_elements, max_registers, max_size}
 use Rattle.plan_laws.specs.ChoiceLaws.{Falls}

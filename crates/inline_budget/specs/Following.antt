@@ -1,6 +1,7 @@
 -- What following callers does to the tables, whatever the accepted calls are.
-use Rattle.std.specs.Prelude.{◌≡◌, ℕ, suc, ◌+◌, ◌<◌, ◌≤◌, ◌^◌, false, List, [], ◌∷◌, length, slice_index_or}
+use Rattle.std.specs.Prelude.{◌≡◌, ℕ, suc, ◌+◌, ◌<◌, ◌≤◌, false, List, [], ◌∷◌, length, slice_index_or}
 use Rattle.std.specs.List.{AllByRecursion}
+use Rattle.il_core.specs.Limits.{max_size}
 use Rattle.inline_budget.specs.declared.numbers.Numbers.{Numbers}
 use Rattle.inline_budget.specs.Attempts.{AreFew, IsWithin, IsAttempt, IsRefused, IsTaken, grown, numbers_at, squares}
 use Rattle.inline_budget.specs.Calls.{Calls, callers_of, has_number, number_at}
@@ -15,7 +16,7 @@ pub record IsReady (T : List Numbers) (ts hs ks : List ℕ) : Type 0 where
   pub times : length ts ≡ length T
   pub handed : length hs ≡ length T
   pub within : (x : ℕ) → IsWithin (numbers_at T x)
-  pub few : (x : ℕ) → number_at ts x ≤ 2 ^ 16
+  pub few : (x : ℕ) → number_at ts x ≤ max_size
   pub below : (x : ℕ) → number_at hs x ≤ number_at ts x
   pub inside : AllByRecursion (λ x. x < length T) ks
   pub touched : (x : ℕ) → has_number ks x ≡ false → number_at ts x ≡ 0

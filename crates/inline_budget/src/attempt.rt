@@ -1,10 +1,12 @@
 //! Whether a call may be inlined beside those that are accepted: its callee's numbers come to its caller, and from each
 //! routine to the callers of the calls to it.
-ghost use Rattle.std.specs.Prelude.{◌≡◌, ◌+◌, ◌<◌, ◌≤◌, ◌^◌, ℕ, [], true, false, IfOk, Some, None, length, replicate, slice_index_or, slice_set};
+ghost use Rattle.std.specs.Prelude.{◌≡◌, ◌+◌, ◌<◌, ◌≤◌, ℕ, [], true, false, IfOk, Some, None, length, replicate, slice_index_or, slice_set};
 ghost use Rattle.std.specs.List.{AllByRecursion};
+ghost use Rattle.il_core.specs.Limits.{max_size};
 ghost use Rattle.inline_budget.specs.Attempts.{AreFew, IsWithin, grown, numbers_at, room_after};
 ghost use Rattle.inline_budget.specs.Calls.{has_number, number_at};
-ghost use Rattle.inline_budget.specs.Following.{AreBrief, Follows, FollowsNot, Grows, GrowsNot, Hands, HandsNot, HasCalls, IsIdle, IsReady, Raises, Refuses, Spreads, SpreadsNot};
+ghost use Rattle.inline_budget.specs.Following.{AreBrief, Follows, FollowsNot, Grows, GrowsNot, Hands, HandsNot, HasCalls, IsIdle, IsReady, Raises};
+ghost use Rattle.inline_budget.specs.Following.{Refuses, Spreads, SpreadsNot};
 
 use crate::buckets::Buckets;
 use crate::choice::Choice;
@@ -78,7 +80,8 @@ impl Attempt {
         requires inside { (y : ℕ) → AllByRecursion (λ x. x < length numbers.old) (slice_index_or callers.now y []) }
         requires by { AreBrief call.now.by }
         ensures idle { IfOk result (λ _. IsIdle numbers.new self.new.times.items self.new.handed.items self.new.queue.items) }
-        ensures taken { IfOk result (λ b. b ≡ true → Grows numbers.old call.now.caller call.now.callee call.now.by callers.now self.old.room numbers.new self.new.room) }
+        ensures taken { IfOk result (λ b. b ≡ true
+            → Grows numbers.old call.now.caller call.now.callee call.now.by callers.now self.old.room numbers.new self.new.room) }
         ensures refused { IfOk result (λ b. b ≡ false → GrowsNot numbers.old call.now.caller call.now.callee call.now.by callers.now self.old.room) }
         ensures kept { IfOk result (λ b. b ≡ false → numbers.new ≡ numbers.old) }
         ensures room { IfOk result (λ b. b ≡ false → self.new.room ≡ self.old.room) }
@@ -130,8 +133,12 @@ impl Attempt {
         requires inside { (y : ℕ) → AllByRecursion (λ x. x < length numbers.now) (slice_index_or callers.now y []) }
         requires by { AreBrief call.now.by }
         ensures ready { IfOk result (λ _. IsReady numbers.now self.new.times.items self.new.handed.items self.new.queue.items) }
-        ensures taken { IfOk result (λ b. b ≡ true → Spreads numbers.now call.now.caller call.now.callee call.now.by callers.now self.old.times.items self.old.handed.items self.old.queue.items self.old.room self.new.times.items self.new.room) }
-        ensures refused { IfOk result (λ b. b ≡ false → SpreadsNot numbers.now call.now.caller call.now.callee call.now.by callers.now self.old.times.items self.old.handed.items self.old.queue.items self.old.room) }
+        ensures taken { IfOk result (λ b. b ≡ true
+            → Spreads numbers.now call.now.caller call.now.callee call.now.by callers.now self.old.times.items self.old.handed.items self.old.queue.items
+            self.old.room self.new.times.items self.new.room) }
+        ensures refused { IfOk result (λ b. b ≡ false
+            → SpreadsNot numbers.now call.now.caller call.now.callee call.now.by callers.now self.old.times.items self.old.handed.items
+            self.old.queue.items self.old.room) }
     {
         if !self.raise_all(numbers, call, &[call.caller], 1)? {
             return Ok(false);
@@ -173,8 +180,11 @@ impl Attempt {
         requires inside { (y : ℕ) → AllByRecursion (λ x. x < length numbers.now) (slice_index_or callers.now y []) }
         requires by { AreBrief call.now.by }
         ensures ready { IfOk result (λ _. IsReady numbers.now self.new.times.items self.new.handed.items self.new.queue.items) }
-        ensures taken { IfOk result (λ b. b ≡ true → Follows numbers.now call.now.callee call.now.by callers.now self.old.times.items self.old.handed.items self.old.queue.items self.old.room self.new.times.items self.new.room) }
-        ensures refused { IfOk result (λ b. b ≡ false → FollowsNot numbers.now call.now.callee call.now.by callers.now self.old.times.items self.old.handed.items self.old.queue.items self.old.room) }
+        ensures taken { IfOk result (λ b. b ≡ true
+            → Follows numbers.now call.now.callee call.now.by callers.now self.old.times.items self.old.handed.items self.old.queue.items self.old.room
+            self.new.times.items self.new.room) }
+        ensures refused { IfOk result (λ b. b ≡ false
+            → FollowsNot numbers.now call.now.callee call.now.by callers.now self.old.times.items self.old.handed.items self.old.queue.items self.old.room) }
     {
         let mut next = 0;
         while next < self.queue.len() {
@@ -200,8 +210,11 @@ impl Attempt {
         requires inside { AllByRecursion (λ x. x < length numbers.now) callers.now }
         requires by { AreBrief call.now.by }
         ensures ready { IfOk result (λ _. IsReady numbers.now self.new.times.items self.new.handed.items self.new.queue.items) }
-        ensures handed { IfOk result (λ b. b ≡ true → Hands numbers.now call.now.callee call.now.by self.old.times.items self.old.handed.items self.old.queue.items self.old.room at callers.now self.new.times.items self.new.handed.items self.new.queue.items self.new.room) }
-        ensures refused { IfOk result (λ b. b ≡ false → HandsNot numbers.now call.now.callee call.now.by self.old.times.items self.old.handed.items self.old.queue.items self.old.room at callers.now) }
+        ensures handed { IfOk result (λ b. b ≡ true
+            → Hands numbers.now call.now.callee call.now.by self.old.times.items self.old.handed.items self.old.queue.items self.old.room at callers.now
+            self.new.times.items self.new.handed.items self.new.queue.items self.new.room) }
+        ensures refused { IfOk result (λ b. b ≡ false
+            → HandsNot numbers.now call.now.callee call.now.by self.old.times.items self.old.handed.items self.old.queue.items self.old.room at callers.now) }
         ensures less { IfOk result (λ b. b ≡ true → self.new.room + length self.new.queue.items ≤ self.old.room + length self.old.queue.items) }
         ensures longer { IfOk result (λ _. length self.old.queue.items ≤ length self.new.queue.items) }
     {
@@ -225,12 +238,15 @@ impl Attempt {
         requires ready { IsReady numbers.now self.old.times.items self.old.handed.items self.old.queue.items }
         requires inside { AllByRecursion (λ x. x < length numbers.now) callers.now }
         requires some { 1 ≤ more }
-        requires few { more ≤ 2 ^ 16 }
+        requires few { more ≤ max_size }
         requires by { AreBrief call.now.by }
         ensures ready { IfOk result (λ _. IsReady numbers.now self.new.times.items self.new.handed.items self.new.queue.items) }
         ensures handed { IfOk result (λ _. self.new.handed.items ≡ self.old.handed.items) }
-        ensures raised { IfOk result (λ b. b ≡ true → Raises numbers.now call.now.callee call.now.by self.old.times.items self.old.handed.items self.old.queue.items self.old.room more callers.now self.new.times.items self.new.queue.items self.new.room) }
-        ensures refused { IfOk result (λ b. b ≡ false → Refuses numbers.now call.now.callee call.now.by self.old.times.items self.old.handed.items self.old.queue.items self.old.room more callers.now) }
+        ensures raised { IfOk result (λ b. b ≡ true
+            → Raises numbers.now call.now.callee call.now.by self.old.times.items self.old.handed.items self.old.queue.items self.old.room more callers.now
+            self.new.times.items self.new.queue.items self.new.room) }
+        ensures refused { IfOk result (λ b. b ≡ false
+            → Refuses numbers.now call.now.callee call.now.by self.old.times.items self.old.handed.items self.old.queue.items self.old.room more callers.now) }
         ensures less { IfOk result (λ b. b ≡ true → self.new.room + length self.new.queue.items ≤ self.old.room + length self.old.queue.items) }
         ensures longer { IfOk result (λ _. length self.old.queue.items ≤ length self.new.queue.items) }
     {
@@ -248,8 +264,8 @@ impl Attempt {
     fn raise(&mut self, numbers: &[Numbers], call: &Candidate, caller: u32, more: u64) -> bool
         requires inside { caller < length numbers.now }
         requires sized { length self.old.times.items ≡ length numbers.now }
-        requires times { number_at self.old.times.items caller ≤ 2 ^ 16 }
-        requires more { more ≤ 2 ^ 16 }
+        requires times { number_at self.old.times.items caller ≤ max_size }
+        requires more { more ≤ max_size }
         requires by { AreBrief call.now.by }
         requires within { IsWithin (numbers_at numbers.now caller) }
         ensures refused { result ≡ false → room_after numbers.now call.now.by call.now.callee self.old.times.items self.old.room caller more ≡ None }
@@ -279,8 +295,8 @@ impl Attempt {
     ) -> Option<u64>
         requires inside { caller < length numbers.now }
         requires sized { length self.now.times.items ≡ length numbers.now }
-        requires times { number_at self.now.times.items caller ≤ 2 ^ 16 }
-        requires more { more ≤ 2 ^ 16 }
+        requires times { number_at self.now.times.items caller ≤ max_size }
+        requires more { more ≤ max_size }
         requires by { AreBrief call.now.by }
         requires within { IsWithin (numbers_at numbers.now caller) }
         ensures { result ≡ room_after numbers.now call.now.by call.now.callee self.now.times.items self.now.room caller more }

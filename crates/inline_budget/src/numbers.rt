@@ -1,5 +1,6 @@
 //! What the limits of a routine speak of.
-ghost use Rattle.std.specs.Prelude.{◌≡◌, ◌-◌, ◌≤◌, ◌^◌};
+ghost use Rattle.std.specs.Prelude.{◌≡◌, ◌-◌, ◌*◌, ◌≤◌, ◌^◌};
+ghost use Rattle.il_core.specs.Limits.{max_size};
 ghost use Rattle.plan_laws.specs.Numbers.{is_within};
 ghost use Rattle.inline_budget.specs.Attempts.{AreFew, IsWithin, grown, plain};
 
@@ -18,7 +19,7 @@ pub(crate) struct Numbers {
 pub(crate) fn grown(numbers: Numbers, by: Numbers, times: u64) -> Numbers
     requires numbers { IsWithin numbers }
     requires by { AreFew by }
-    requires times { times ≤ 2 ^ 17 }
+    requires times { times ≤ 2 * max_size }
     ensures grown { result ≡ grown numbers by times }
     ensures size { result.size ≤ 2 ^ 63 }
 {
@@ -43,7 +44,7 @@ pub(crate) fn is_within(numbers: Numbers) -> bool
 /// How much the square of a size rises.
 pub(crate) fn rise(old: u64, now: u64) -> u64
     requires old { old ≤ now }
-    requires now { now ≤ 2 ^ 16 }
+    requires now { now ≤ max_size }
     ensures { result ≡ now ^ 2 - old ^ 2 }
 {
     now * now - old * old

@@ -1,5 +1,6 @@
 -- Where the code finds a site, the definition finds it, and where it finds none there is none.
-use Rattle.std.proofs.Common.{◌≡◌, ℕ, suc, ◌+◌, ◌-◌, ◌≤◌, ◌<◌, List, [], ◌∷◌, ◌++◌, Bool, refl, ap, subst, sym, ◌∙◌, arith, length, le-ltb, get_or, slice_get, inl, inr}
+use Rattle.std.proofs.Common.{◌≡◌, ℕ, suc, ◌+◌, ◌-◌, ◌≤◌, ◌<◌, List, [], ◌∷◌, ◌++◌, Bool, refl, ap, subst, sym, ◌∙◌, arith, length, le-ltb, get_or}
+use Rattle.std.proofs.Common.{slice_get, inl, inr}
 use Rattle.std.specs.Prelude.{◌⊎◌, Option, Some, None, if◌then◌else◌}
 use Rattle.std.proofs.lemmas.List.{length-append}
 use Rattle.std.proofs.lemmas.Option.{none-some, same_Some, slice_get_cases}
@@ -85,7 +86,8 @@ all_count (x ∷ xs) =
 no_place : (k : ℕ) (bs : List Block) → site_at k bs ≡ None → site_place 0 k bs ≡ None
 no_place k bs e = by (slice_get_cases (callees bs) k).1
   where
-    by : ((x : ℕ) × (k < length (callees bs)) × (slice_get (callees bs) k ≡ Some x) × (get_or (callees bs) k x ≡ x)) ⊎ ((length (callees bs) ≤ k) × (slice_get (callees bs) k ≡ None))
+    by : ((x : ℕ) × (k < length (callees bs)) × (slice_get (callees bs) k ≡ Some x) × (get_or (callees bs) k x ≡ x)) ⊎
+        ((length (callees bs) ≤ k) × (slice_get (callees bs) k ≡ None))
         → site_place 0 k bs ≡ None
     by (inl h) = let c = calls_site bs k h.0 h.2 in absurd (none-some c.site (sym e ∙ c.is))
     by (inr h) =

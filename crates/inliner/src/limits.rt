@@ -7,7 +7,8 @@ use il_core::{Block, Routine, limits};
 
 /// Whether the registers, the local arrays and their elements of both together are few enough.
 pub(crate) fn have_room(caller: &Routine, callee: &Routine) -> bool
-    ensures { result ≡ (nat_le (caller.now.regs + callee.now.regs) max_registers && nat_le (length caller.now.arrays + length callee.now.arrays) max_arrays && nat_le (sum caller.now.arrays + sum callee.now.arrays) max_elements) }
+    ensures { result ≡ (nat_le (caller.now.regs + callee.now.regs) max_registers && nat_le (length caller.now.arrays + length callee.now.arrays) max_arrays &&
+        nat_le (sum caller.now.arrays + sum callee.now.arrays) max_elements) }
 {
     let arrays = caller.arrays.len() + callee.arrays.len();
     let elements = total(caller.arrays.as_slice()) + total(callee.arrays.as_slice());

@@ -77,7 +77,8 @@ fn splice_at(
     requires elements { sum caller.arrays + sum callee.now.arrays ≤ max_elements }
     requires site { (s : Site) × IsAt place caller.blocks s }
     ensures routine { IfOk result (λ r. (s : Site) → IsAt place caller.blocks s → r ≡ spliced caller callee.now (Some s)) }
-    ensures too_large { IfErr result (λ e. e ≡ SpliceFault.TooLarge → (s : Site) → IsAt place caller.blocks s → IsWithinLimits (spliced caller callee.now (Some s)) → ⊥) }
+    ensures too_large { IfErr result (λ e. e ≡ SpliceFault.TooLarge → (s : Site) → IsAt place caller.blocks s
+        → IsWithinLimits (spliced caller callee.now (Some s)) → ⊥) }
 {
     let Routine {
         pid,

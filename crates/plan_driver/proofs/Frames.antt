@@ -1,20 +1,18 @@
 -- What the pools are while a program is printed.
-use Rattle.std.proofs.Common.{◌≡◌, ◌≢◌, ◌≤◌, ◌<◌, ◌+◌, ◌*◌, ℕ, Bool, true, false, cond, nat_eq, List, length, Option, Some, None, IsSome, Result, Ok, Err, refl, sym, ap, subst, arith, le_trans, ◌∙◌}
+use Rattle.std.proofs.Common.{◌≡◌, ◌*◌, ℕ, Bool, true, false, cond, nat_eq, List, Option, Some, None, IsSome, Result, Ok, Err, refl, sym, ap, subst, ◌∙◌}
 use Rattle.std.proofs.Math.Nat.{le_refl}
-use Rattle.std.specs.Prelude.{IfErr, is_some, option_map}
+use Rattle.std.specs.Prelude.{IfErr, is_some}
 use Rattle.std.specs.Arc.{arc_value}
-use Rattle.outside.specs.Faults.{Rose}
 use Rattle.list_laws.proofs.Entries.{same_number}
-use Rattle.naim_core.specs.State.{empty_hand}
 use Rattle.naim_core.specs.declared.event.Failure.{Failure}
 use Rattle.naim_core.specs.declared.event.Failure.TheVariants as failure
 use Rattle.naim_loader.specs.declared.forms.ReadPin.{ReadPin}
 use Rattle.naim_loader.specs.Calls.{Fails}
-use Rattle.naim_loader.specs.Paged.{Paged, content_at, kept_at, IsGood, IsTrusted}
+use Rattle.naim_loader.specs.Paged.{Paged, kept_at, IsGood, IsTrusted}
 use Rattle.naim_loader.specs.Rows.{Kept}
-use Rattle.one_owner.specs.Alone.{IsReading, IsResting}
-use Rattle.one_owner.specs.Answers.{GivesBack, Takes}
-use Rattle.one_owner.specs.Causes.{IsDamage, IsUnreadable, RoomCause, TakeCause}
+use Rattle.one_owner.specs.Alone.{IsResting}
+use Rattle.one_owner.specs.Answers.{Takes}
+use Rattle.one_owner.specs.Causes.{RoomCause, TakeCause}
 use Rattle.one_owner.specs.Going.{Keeps, Stays, Stops}
 use Rattle.one_owner.proofs.Frames.{fails_stop, rose_since, stays_itself, stays_on}
 use Rattle.plan_driver.specs.Printing.{Leaves, ReadCause, Reads, Rests, StopsReading}

@@ -1,9 +1,9 @@
 -- Fronts of what is put out in pieces.
-use Rattle.std.proofs.Common.{◌≡◌, ◌≤◌, ℕ, zero, suc, ◌+◌, List, [], ◌∷◌, ◌++◌, length, take, Option, Some, None, Result, Ok, Err, refl, sym, ap, subst, arith, append-nil}
+use Rattle.std.proofs.Common.{◌≡◌, ◌≤◌, ℕ, zero, suc, ◌+◌, List, [], ◌∷◌, ◌++◌, length, take, Option, Some, None, Result, Ok, Err, refl, sym, ap, subst}
+use Rattle.std.proofs.Common.{arith, append-nil}
 use Rattle.std.specs.Io.KnownBytes.{Appends}
 use Rattle.std.proofs.KnownBytes.{Appends-trans}
 use Rattle.std.proofs.Math.Seq.{take-append-add}
-use Rattle.outside.specs.Faults.{Rose}
 use Rattle.outside.specs.Taken.{TakesAll}
 use Rattle.plan_driver.specs.Printing.{IsStopped, OutputCause}
 use Rattle.plan_driver.specs.declared.printing.PrintFault.{PrintFault}

@@ -1,11 +1,12 @@
 -- A valid program's routines are those of its rows, in order.
-use Rattle.std.proofs.Common.{◌≡◌, ◌≤◌, ◌<◌, ℕ, Bool, true, false, nat_eq, List, [], ◌∷◌, map, Option, Some, None, refl, sym, ap, subst, arith, inl, inr, ◌∙◌}
-use Rattle.std.specs.Prelude.{◌⊎◌, if◌then◌else◌}
-use Rattle.std.specs.List.{AllByRecursion}
+use Rattle.std.proofs.Common.{◌≡◌, ◌≤◌, ◌<◌, ℕ, Bool, true, false, nat_eq, List, [], ◌∷◌, map, Some, refl, sym, ap, subst, arith, inl, inr, ◌∙◌}
+use Rattle.std.specs.Prelude.{if◌then◌else◌}
+use Rattle.std.specs.List.{AllByRecursion, IsDistinct}
 use Rattle.std.proofs.lemmas.Bool.{cases_eq}
 use Rattle.std.proofs.lemmas.Option.{same_Some}
+use Rattle.list_laws.proofs.Entries.{other_number}
 use Rattle.list_laws.proofs.Rising.{Above, AllIn, In, Rises}
-use Rattle.il_core.specs.Program.{found, shape_at, shape_of_row}
+use Rattle.il_core.specs.Program.{shape_at, shape_of_row}
 use Rattle.il_core.specs.Routine.{RoutineParts}
 use Rattle.il_core.specs.Shapes.{IsRising, IsRisingFrom}
 use Rattle.il_core.specs.Valid.{IsProgram}
@@ -134,5 +135,21 @@ program_pids p valid = rises_same (map (λ r. r.pid) p.routines) (routine_pids p
     (record { by = λ q h. all_shaped p.shapes p.routines q valid.shapes.routines h })
     (record {
       by = λ q h.
-          (let s = shaped_all p.shapes q valid.rows h in let c = callee_of p valid q s.params s.value s.is in found_in (λ r. r.pid) q p.routines c.routine c.is);
+          (let s = shaped_all p.shapes q valid.rows h in let c = callee_of p valid q s.params s.value s.is in
+          found_in (λ r. r.pid) q p.routines c.routine c.is);
     })
+
+distinct_above : (n : ℕ) (xs : List ℕ) → Above n xs → AllByRecursion (λ y. nat_eq n y ≡ false) xs
+distinct_above n [] a = tt
+distinct_above n (x ∷ xs) a =
+    let l : n < x = a.0 in let le : n ≤ x = omega arith in
+    (other_number n x (λ e. absurd (omega arith)), distinct_above n xs (above_less n x xs le a.1))
+
+rises_differ : (xs : List ℕ) → Rises xs → IsDistinct nat_eq xs
+unfolding IsDistinct
+rises_differ [] r = tt
+rises_differ (x ∷ xs) r = (distinct_above x xs r, rises_differ xs (above_rises x xs r))
+
+-- the routines' PIDs differ
+pub pids_differ : (rows : List ShapeRow) → IsRising (λ row. row.pid) rows → IsDistinct nat_eq (routine_pids rows)
+pids_differ rows h = rises_differ (routine_pids rows) (pids_rise rows h)

@@ -1,6 +1,7 @@
 -- The routines of a program's rows.
-use Rattle.std.proofs.Common.{◌≡◌, ◌≢◌, ◌≤◌, ◌<◌, ◌+◌, ℕ, zero, suc, Bool, true, false, nat_eq, List, [], ◌∷◌, ◌++◌, length, take, drop, get_or, map, Option, Some, None, IsSome, refl, sym, ap, subst, arith, ◌∙◌, ap₂, append_assoc}
-use Rattle.std.specs.Prelude.{flat_map, if◌then◌else◌, is_some, option_map}
+use Rattle.std.proofs.Common.{◌≡◌, ◌<◌, ◌+◌, ℕ, zero, suc, Bool, true, false, nat_eq, List, [], ◌∷◌, ◌++◌, length, take, drop, get_or, map, Option}
+use Rattle.std.proofs.Common.{Some, IsSome, refl, sym, ap, subst, arith, ◌∙◌, ap₂, append_assoc}
+use Rattle.std.specs.Prelude.{if◌then◌else◌, is_some, option_map}
 use Rattle.std.specs.List.{AllByRecursion}
 use Rattle.std.proofs.lemmas.Grind.{flat_map-append}
 use Rattle.std.proofs.lemmas.List.{flat_map_more, take-append-drop, take_more}
@@ -11,7 +12,6 @@ use Rattle.il_core.specs.Shapes.{IsRising, IsRisingFrom}
 use Rattle.il_core.specs.Text.{done_text, head_text, routine_text, routines_text, text}
 use Rattle.il_core.specs.Object.{ObjectParts}
 use Rattle.il_core.specs.declared.program.IlProgram.{IlProgram}
-use Rattle.il_core.specs.declared.shape.Shape.{Shape}
 use Rattle.il_core.specs.declared.shape.Shape.TheVariants as shape
 use Rattle.il_core.specs.declared.shape.ShapeRow.{ShapeRow}
 use Rattle.compact_form.specs.declared.body.RoutineBody.{RoutineBody}
@@ -19,7 +19,7 @@ use Rattle.std.specs.Arc.{arc_value}
 use Rattle.std.specs.Io.KnownBytes.{Appends}
 use Rattle.std.proofs.KnownBytes.{Appends-trans}
 use Rattle.naim_loader.specs.declared.forms.ReadPin.{ReadPin}
-use Rattle.naim_loader.specs.Paged.{Paged, IsTrusted, content_at, kept_at}
+use Rattle.naim_loader.specs.Paged.{Paged, IsTrusted, kept_at}
 use Rattle.one_owner.specs.Answers.{Takes}
 use Rattle.plan_driver.specs.Contents.{HavePools, HoldsProgram, is_routine, routine_in, routine_pids, row_text, rows_text, text_if}
 use Rattle.plan_driver.proofs.Frames.{is_some_of, some_is}

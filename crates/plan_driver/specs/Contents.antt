@@ -1,7 +1,8 @@
 -- A program whose routines lie in pools.
-use Rattle.std.specs.Prelude.{◌≡◌, ℕ, Bool, true, false, List, [], ◌∷◌, ◌++◌, IsSome, Option, Some, None, if◌then◌else◌, flat_map, map, option_map}
+use Rattle.std.specs.Prelude.{◌≡◌, ℕ, Bool, true, false, List, [], ◌∷◌, IsSome, Option, Some, None, if◌then◌else◌, flat_map, map, option_map}
 use Rattle.std.specs.List.{AllByRecursion}
 use Rattle.il_core.specs.Object.{ObjectParts}
+use Rattle.il_core.specs.Program.{routine_at}
 use Rattle.il_core.specs.Routine.{RoutineParts}
 use Rattle.il_core.specs.Text.{routine_text}
 use Rattle.il_core.specs.declared.program.IlProgram.{IlProgram}
@@ -47,3 +48,7 @@ row_text at row = if is_routine row.shape then text_if row.name (at row.pid) els
 -- the texts of the routines of the rows, in order
 abbrev pub rows_text : (ℕ → Option RoutineParts) → List ShapeRow → List ℕ
 rows_text at rows = flat_map (row_text at) rows
+
+-- the pools have the routines of the program, each under its PID, and no others
+pub record IsContents {B D : Type 0} (l : Paged RoutineBody B D) (p : IlProgram) : Type 0 where
+  pub by : (q : ℕ) → routine_in l q ≡ routine_at p.routines q

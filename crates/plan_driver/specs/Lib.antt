@@ -1,2 +1,17 @@
+pub mod Accepting
+pub mod Adding
+pub mod BudgetLaws
+pub mod Budgetless
 pub mod Contents
+pub mod Fitting
+pub mod Inlining
+pub mod MoveLaws
+pub mod Noting
+pub mod Passes
+pub mod Planning
 pub mod Printing
+pub mod Retargeting
+pub mod Rewriting
+pub mod Seeing
+pub mod Stopping
+pub mod Waving

@@ -1,5 +1,5 @@
 -- A program that is printed from pools.
-use Rattle.std.specs.Prelude.{◌≡◌, ◌≢◌, ◌≤◌, ◌*◌, ℕ, Bool, true, false, List, length, Some, Result, Ok, Err, is_some, ⊤}
+use Rattle.std.specs.Prelude.{◌≡◌, ◌≢◌, ◌*◌, ℕ, Bool, true, length, Some, Result, Ok, Err, is_some, ⊤}
 use Rattle.outside.specs.Faults.{Rose}
 use Rattle.naim_core.specs.declared.event.Failure.{Failure}
 use Rattle.naim_core.specs.declared.event.Failure.TheVariants as failure

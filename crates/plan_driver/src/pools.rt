@@ -31,7 +31,8 @@ pub fn add_routine<D: Disk + Drop>(
     requires absent { kept_at loader.old r.pid ≡ None }
     requires room { length loader.old.core.pools < 4096 }
     ensures ok { IfOk result (λ _. Places D.faults loader.old loader.new r.pid (record { routine = r }) tt) }
-    ensures err { IfErr result (λ f. Stops D.faults (PlaceCause (D.faults loader.old.disk) (D.faults loader.new.disk) r.pid (length (compact r)) loader.old.core.limit) loader.old loader.new f) }
+    ensures err { IfErr result (λ f. Stops D.faults (PlaceCause (D.faults loader.old.disk) (D.faults loader.new.disk) r.pid (length (compact r))
+        loader.old.core.limit) loader.old loader.new f) }
     ensures too_small { loader.old.core.limit < length (compact r) → result ≡ Err (failure.TooSmall r.pid (length (compact r)) loader.old.core.limit) }
 {
     let pid = r.pid;

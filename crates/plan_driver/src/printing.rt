@@ -45,7 +45,8 @@ pub fn print<D: Disk + Drop, O: Sink>(
 ) -> Result<(), PrintFault>
     requires rests { IsResting loader.old }
     requires pools { HavePools loader.old shapes.now }
-    ensures bytes { (program : ProgramData) → IsTrusted D.reach D.honest loader.old → HoldsProgram loader.old shapes.now objects.now program → TakesAll (O.taken out.old) (O.taken out.new) result (text program) }
+    ensures bytes { (program : ProgramData) → IsTrusted D.reach D.honest loader.old → HoldsProgram loader.old shapes.now objects.now program
+        → TakesAll (O.taken out.old) (O.taken out.new) result (text program) }
     ensures pools { Leaves D.reach D.honest D.faults loader.old loader.new result }
     ensures cause { OutputCause (O.faults out.old) (O.faults out.new) result }
     ensures later { O.faults out.old ≤ O.faults out.new }
@@ -58,7 +59,7 @@ pub fn print<D: Disk + Drop, O: Sink>(
 }
 
 /// The rows, by rising PID.
-fn rows_of(shapes: &Shapes) -> &[ShapeRow]
+pub(crate) fn rows_of(shapes: &Shapes) -> &[ShapeRow]
     ensures rows { result.now ≡ shapes.now }
     ensures rising { IsRising (λ row. row.pid) shapes.now }
 {
@@ -94,7 +95,8 @@ fn print_tail<D: Disk + Drop, O: Sink>(
 ) -> Result<(), PrintFault>
     requires rests { IsResting loader.old }
     requires pools { HavePools loader.old rows.now }
-    ensures bytes { IsTrusted D.reach D.honest loader.old → TakesAll (O.taken out.old) (O.taken out.new) result (rows_text (routine_in loader.old) rows.now ++ done_text) }
+    ensures bytes { IsTrusted D.reach D.honest loader.old
+        → TakesAll (O.taken out.old) (O.taken out.new) result (rows_text (routine_in loader.old) rows.now ++ done_text) }
     ensures pools { Leaves D.reach D.honest D.faults loader.old loader.new result }
     ensures cause { OutputCause (O.faults out.old) (O.faults out.new) result }
     ensures later { O.faults out.old ≤ O.faults out.new }

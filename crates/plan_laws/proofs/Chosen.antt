@@ -1,5 +1,6 @@
 -- The choice's calls are sites of their callers with those callees, and free of cycles.
-use Rattle.std.proofs.Common.{◌≡◌, ℕ, suc, ◌+◌, ◌<◌, List, [], ◌∷◌, ◌++◌, map, Bool, true, false, refl, ap, subst, sym, ◌∙◌, arith, slice_get, eqb-true, ◌⊎◌, inl, inr}
+use Rattle.std.proofs.Common.{◌≡◌, ℕ, suc, ◌+◌, ◌<◌, List, [], ◌∷◌, ◌++◌, map, Bool, true, false, refl, ap, subst, sym, ◌∙◌, arith, slice_get, eqb-true}
+use Rattle.std.proofs.Common.{◌⊎◌, inl, inr}
 use Rattle.std.specs.Prelude.{◌&&◌, ◌||◌, nat_eq, nat_le, if◌then◌else◌, Some}
 use Rattle.std.specs.List.{AllByRecursion, list_all}
 use Rattle.il_core.specs.declared.program.IlProgram.{IlProgram}

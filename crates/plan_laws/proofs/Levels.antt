@@ -1,5 +1,6 @@
 -- Accepted calls that are free of cycles have levels that fall along each call, and the other way round.
-use Rattle.std.proofs.Common.{◌≡◌, ℕ, zero, suc, ◌+◌, ◌<◌, ◌≤◌, List, [], ◌∷◌, Bool, true, false, refl, ap, ap₂, subst, sym, ◌∙◌, arith, length, eqb-true, eq-eqb, le-leb, leb-true}
+use Rattle.std.proofs.Common.{◌≡◌, ℕ, zero, suc, ◌+◌, ◌<◌, ◌≤◌, List, [], ◌∷◌, Bool, true, false, refl, ap, ap₂, subst, sym, ◌∙◌, arith, length}
+use Rattle.std.proofs.Common.{eqb-true, eq-eqb, le-leb, leb-true}
 use Rattle.std.specs.Prelude.{◌&&◌, max, nat_eq, nat_le, if◌then◌else◌}
 use Rattle.std.specs.List.{AllByRecursion, list_all}
 use Rattle.il_laws.specs.Edges.{one_if}

@@ -1,5 +1,6 @@
 -- The members of the accepted groups are exactly the sites that move, each to its group's clone.
-use Rattle.std.proofs.Common.{◌≡◌, ℕ, zero, suc, ◌⊎◌, inl, inr, List, [], ◌∷◌, map, option_map, Bool, true, false, refl, ap, ap₂, subst, sym, ◌∙◌, eqb-true, eq-eqb, slice_get}
+use Rattle.std.proofs.Common.{◌≡◌, ℕ, zero, suc, ◌⊎◌, inl, inr, List, [], ◌∷◌, map, option_map, Bool, true, false, refl, ap, ap₂, subst, sym, ◌∙◌}
+use Rattle.std.proofs.Common.{eqb-true, eq-eqb, slice_get}
 use Rattle.std.specs.Prelude.{◌&&◌, ◌||◌, not, nat_eq, if◌then◌else◌, filter, Option, Some, None, ⊤}
 use Rattle.std.specs.List.{AllByRecursion}
 use Rattle.std.proofs.lemmas.Option.{none-some, same_Some}
@@ -17,7 +18,8 @@ use Rattle.il_laws.proofs.Grown.{all_to}
 use Rattle.list_laws.proofs.Tests.{and_first, and_second}
 use Rattle.plan_laws.specs.Summary.{Summary, summary, summaries, summary_at, CallSite, call_sites}
 use Rattle.plan_laws.specs.Choosing.{is_candidate}
-use Rattle.plan_laws.specs.Groups.{fixed_from, reads_of, fixed_of, is_empty, Group, Member, has_key, member_of, may_move, grouped, group_before, ranked_groups, clone_in, Taken, at_start, clone_of_site}
+use Rattle.plan_laws.specs.Groups.{fixed_from, reads_of, fixed_of, is_empty, Group, Member, has_key, member_of, may_move, grouped, group_before}
+use Rattle.plan_laws.specs.Groups.{ranked_groups, clone_in, Taken, at_start, clone_of_site}
 use Rattle.plan_laws.specs.GroupLaws.{has_member, clone_of_member, MembersMove, EachPass}
 use Rattle.plan_laws.specs.Plan.{State, add_clones, Pass, pass_groups, one_pass, limit_of, passes_from, at_first, passes as plan_of}
 use Rattle.plan_laws.specs.PlanLaws.{IsFirst}
@@ -25,7 +27,8 @@ use Rattle.plan_laws.proofs.Accepted.{clone_key, SameTable, IsClone, clones_are,
 use Rattle.plan_laws.proofs.Adding.{IsSound, Grows}
 use Rattle.plan_laws.proofs.Chosen.{IsOf, sites_of_callers}
 use Rattle.plan_laws.proofs.GroupsFit.{sorted_all, summary_found, sites_stand}
-use Rattle.plan_laws.proofs.Keys.{true_false, is_key, key_is, key_made, key_turned, NoneHas, differ_sorted, sorted_back, members_at, members_first, with_key, differ_grouped, members_are}
+use Rattle.plan_laws.proofs.Keys.{true_false, is_key, key_is, key_made, key_turned, NoneHas, differ_sorted, sorted_back, members_at, members_first}
+use Rattle.plan_laws.proofs.Keys.{with_key, differ_grouped, members_are}
 use Rattle.plan_laws.proofs.Passing.{added, pass_succeeds, first_sound}
 use Rattle.plan_laws.proofs.Ranking.{same_site}
 

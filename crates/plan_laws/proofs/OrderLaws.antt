@@ -1,5 +1,6 @@
 -- A list in order is the only one with its elements, where elements of one rank are equal.
-use Rattle.std.proofs.Common.{◌≡◌, ℕ, suc, ◌+◌, ◌<◌, ◌≤◌, ◌⊎◌, inl, inr, List, [], ◌∷◌, Bool, true, false, refl, ap, ap₂, sym, ◌∙◌, arith, length, eqb-true, eq-eqb, ltb-true, lt-ltb, ltb-false}
+use Rattle.std.proofs.Common.{◌≡◌, ℕ, suc, ◌+◌, ◌<◌, ◌≤◌, ◌⊎◌, inl, inr, List, [], ◌∷◌, Bool, true, false, refl, ap, ap₂, sym, ◌∙◌, arith, length}
+use Rattle.std.proofs.Common.{eqb-true, eq-eqb, ltb-true, lt-ltb, ltb-false}
 use Rattle.std.specs.Prelude.{nat_eq, nat_lt, if◌then◌else◌, sum_by, get_or, ⊤}
 use Rattle.std.specs.List.{AllByRecursion}
 use Rattle.std.specs.List.Sorted.{IsPermutation, IsSortedBy}

@@ -27,7 +27,8 @@ use Rattle.plan_laws.specs.Orders.{greatest}
 use Rattle.plan_laws.specs.Summary.{summary, summaries}
 use Rattle.plan_laws.specs.Groups.{ranked_groups, at_start}
 use Rattle.plan_laws.specs.Inlining.{inlined_routine}
-use Rattle.plan_laws.specs.Plan.{State, add_clones, each_routine, retargeted, prune, Pass, pass_groups, pass_choice, one_pass, states_of, limit_of, passes_from, at_first, passes as plan_of, plan_states, plan, last_program, final}
+use Rattle.plan_laws.specs.Plan.{State, add_clones, each_routine, retargeted, prune, Pass, pass_groups, pass_choice, one_pass, states_of, limit_of}
+use Rattle.plan_laws.specs.Plan.{passes_from, at_first, passes as plan_of, plan_states, plan, last_program, final}
 use Rattle.plan_laws.specs.PlanLaws.{HasNoDollar, IsFirst, SameRun, Succeeds, AllSucceed, InTurn, HasRightTable}
 use Rattle.plan_laws.proofs.Adding.{IsBelow, IsSound, Added, grows_itself, all_added}
 use Rattle.plan_laws.proofs.GroupsFit.{groups_fit}

@@ -1,5 +1,6 @@
 -- Every routine of every program of the plan is within the limits of the language.
-use Rattle.std.proofs.Common.{◌≡◌, ℕ, zero, suc, ◌+◌, ◌<◌, ◌≤◌, List, [], ◌∷◌, ◌++◌, map, Bool, true, false, refl, ap, subst, sym, ◌∙◌, arith, length, leb-true, le-leb, ltb-true}
+use Rattle.std.proofs.Common.{◌≡◌, ℕ, zero, suc, ◌+◌, ◌<◌, ◌≤◌, List, [], ◌∷◌, ◌++◌, map, Bool, true, false, refl, ap, subst, sym, ◌∙◌, arith, length}
+use Rattle.std.proofs.Common.{leb-true, le-leb, ltb-true}
 use Rattle.std.specs.Prelude.{◌^◌, ◌&&◌, nat_le, nat_lt, if◌then◌else◌, flat_map, sum, Option, Some, None}
 use Rattle.std.specs.List.{AllByRecursion, list_all}
 use Rattle.il_core.specs.declared.program.IlProgram.{IlProgram}
@@ -28,8 +29,10 @@ use Rattle.plan_laws.specs.Orders.{greatest}
 use Rattle.plan_laws.specs.Summary.{Summary, summary, summaries, summary_at, CallSite, numbered}
 use Rattle.plan_laws.specs.Numbers.{Choice, Numbers, own, with_calls, numbers, inlined_numbers, is_within}
 use Rattle.plan_laws.specs.Inlining.{inlined_routine}
-use Rattle.plan_laws.specs.Groups.{Group, Taken, Spent, clone_fits, more_spent, refused, with_new, decided, clone_in, clone_numbers, taken, may_move, fixed_of, clone_of_site, with_move, moves, ranked_groups, at_start}
-use Rattle.plan_laws.specs.Plan.{State, new_clone, add_clone, add_clones, retargeted, Pass, pass_groups, pass_choice, one_pass, states_of, limit_of, passes_from, at_first, plan}
+use Rattle.plan_laws.specs.Groups.{Group, Taken, Spent, clone_fits, more_spent, refused, with_new, decided, clone_in, clone_numbers, taken, may_move}
+use Rattle.plan_laws.specs.Groups.{fixed_of, clone_of_site, with_move, moves, ranked_groups, at_start}
+use Rattle.plan_laws.specs.Plan.{State, new_clone, add_clone, add_clones, retargeted, Pass, pass_groups, pass_choice, one_pass, states_of, limit_of}
+use Rattle.plan_laws.specs.Plan.{passes_from, at_first, plan}
 use Rattle.plan_laws.specs.PlanLaws.{IsFirst}
 use Rattle.plan_laws.proofs.Adding.{IsBelow, IsSound}
 use Rattle.plan_laws.proofs.Chosen.{StandsHere, all_here, choice_within}

@@ -1,5 +1,6 @@
 -- Each pass stays within its limit, and the plan within its budget.
-use Rattle.std.proofs.Common.{◌≡◌, ℕ, zero, suc, ◌+◌, ◌*◌, ◌/◌, ◌<◌, ◌≤◌, List, [], ◌∷◌, ◌++◌, map, option_map, Bool, true, false, refl, ap, subst, sym, ◌∙◌, arith, length, slice_get, leb-true}
+use Rattle.std.proofs.Common.{◌≡◌, ℕ, zero, suc, ◌+◌, ◌*◌, ◌/◌, ◌<◌, ◌≤◌, List, [], ◌∷◌, ◌++◌, map, option_map, Bool, true, false, refl, ap, subst, sym}
+use Rattle.std.proofs.Common.{◌∙◌, arith, length, slice_get, leb-true}
 use Rattle.std.specs.Prelude.{◌^◌, ◌&&◌, cond, nat_le, nat_lt, if◌then◌else◌, filter, flat_map, Option, Some, None}
 use Rattle.std.specs.List.{list_all}
 use Rattle.std.proofs.lemmas.List.Sums.{sum_by-cons, sum_by-append}
@@ -34,8 +35,10 @@ use Rattle.plan_laws.specs.Numbers.{Choice, falling, inlined_numbers, is_within,
 use Rattle.plan_laws.specs.Levels.{is_acyclic}
 use Rattle.plan_laws.specs.Choosing.{ranked_sites, is_candidate, may_inline, chosen_site, accepted, choice}
 use Rattle.plan_laws.specs.Inlining.{bodies, inlined_by, inlined_routine, inlined_routines}
-use Rattle.plan_laws.specs.Groups.{Group, Taken, Spent, clone_fits, more_spent, refused, with_new, decided, clone_in, clone_numbers, taken, moves, ranked_groups, at_start}
-use Rattle.plan_laws.specs.Plan.{State, new_clone, add_clone, add_clones, retargeted, Pass, pass_groups, pass_choice, one_pass, states_of, limit_of, passes_from, at_first, passes as plan_of, last_program, final}
+use Rattle.plan_laws.specs.Groups.{Group, Taken, Spent, clone_fits, more_spent, refused, with_new, decided, clone_in, clone_numbers, taken, moves}
+use Rattle.plan_laws.specs.Groups.{ranked_groups, at_start}
+use Rattle.plan_laws.specs.Plan.{State, new_clone, add_clone, add_clones, retargeted, Pass, pass_groups, pass_choice, one_pass, states_of, limit_of}
+use Rattle.plan_laws.specs.Plan.{passes_from, at_first, passes as plan_of, last_program, final}
 use Rattle.plan_laws.specs.PlanLaws.{IsFirst, IsWithin}
 use Rattle.plan_laws.proofs.Adding.{IsSound}
 use Rattle.plan_laws.proofs.GroupsFit.{summary_found}
@@ -59,7 +62,7 @@ filter_if : (k : Bool) (r : RoutineParts) (rs : List RoutineParts) → cost (con
 filter_if true r rs = let a = sum_by-cons square_of r rs in omega arith
 filter_if false r rs = omega arith
 
-filter_cost : (t : RoutineParts → Bool) (rs : List RoutineParts) → cost (filter t rs) ≤ cost rs
+pub filter_cost : (t : RoutineParts → Bool) (rs : List RoutineParts) → cost (filter t rs) ≤ cost rs
 filter_cost t [] = omega arith
 filter_cost t (r ∷ rs) =
     let one = filter_if (t r) r (filter t rs) in
@@ -86,7 +89,7 @@ pub retarget_size : (b : Bool) (r : RoutineParts) (ms : List SiteMove) → size 
 retarget_size true r ms = let same = moved_size ms 0 r.blocks in omega arith
 retarget_size false r ms = omega arith
 
-summaries_cost : (rs : List RoutineParts) → cost_of (map summary rs) ≡ cost rs
+pub summaries_cost : (rs : List RoutineParts) → cost_of (map summary rs) ≡ cost rs
 summaries_cost [] = refl
 summaries_cost (r ∷ rs) =
     sum_by-cons (λ (s : Summary). s.size ^ 2) (summary r) (map summary rs)

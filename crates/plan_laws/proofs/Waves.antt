@@ -1,5 +1,6 @@
 -- Inlining wave by wave is inlining by recursion, where the accepted sites' levels fall.
-use Rattle.std.proofs.Common.{◌≡◌, ℕ, zero, suc, ◌+◌, ◌<◌, ◌≤◌, List, [], ◌∷◌, map, option_map, Bool, true, false, refl, ap, ap₂, subst, sym, ◌∙◌, arith, length, eqb-true, eq-eqb, le-leb, leb-true}
+use Rattle.std.proofs.Common.{◌≡◌, ℕ, zero, suc, ◌+◌, ◌<◌, ◌≤◌, List, [], ◌∷◌, map, option_map, Bool, true, false, refl, ap, ap₂, subst, sym, ◌∙◌}
+use Rattle.std.proofs.Common.{arith, length, eqb-true, eq-eqb, le-leb, leb-true}
 use Rattle.std.specs.Prelude.{max, nat_eq, nat_le, if◌then◌else◌, Option, Some, None}
 use Rattle.std.specs.List.{AllByRecursion}
 use Rattle.il_core.specs.Program.{routine_at}

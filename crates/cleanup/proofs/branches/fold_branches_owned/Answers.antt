@@ -21,14 +21,16 @@ fold_blocks-requires-clause-named c =
 pub invariant_of-result : goal.invariant_of-result
 invariant_of-result c =
     subst IsWithinLimits
-    (sym (owned_is folded_block (the_view c.r.inside) c.into_vec-blocks.result.len c.in_ok-flow.flow.params c.into_vec-blocks.result.items c.as_mut_slice-2.result.now c.fold_blocks.new.blocks _ c.from_vec.result
+    (sym (owned_is folded_block (the_view c.r.inside) c.into_vec-blocks.result.len c.in_ok-flow.flow.params c.into_vec-blocks.result.items
+    c.as_mut_slice-2.result.now c.fold_blocks.new.blocks _ c.from_vec.result
     c.from_vec.ensures (c.fold_blocks.auto.blocks
     ∙ c.as_mut_slice-2.ensures.len) c.as_mut_slice-2.ensures.value c.into_vec-blocks.ensures c.in_ok-flow.ensures.params c.in_ok-fold_blocks.ensures))
     (fold_within (the_view c.r.inside) c.r.invariant)
 
 pub returns : goal.returns
 returns c =
-    owned_is folded_block (the_view c.r.inside) c.into_vec-blocks.result.len c.in_ok-flow.flow.params c.into_vec-blocks.result.items c.as_mut_slice-2.result.now c.fold_blocks.new.blocks _ c.from_vec.result
+    owned_is folded_block (the_view c.r.inside) c.into_vec-blocks.result.len c.in_ok-flow.flow.params c.into_vec-blocks.result.items c.as_mut_slice-2.result.now
+    c.fold_blocks.new.blocks _ c.from_vec.result
     c.from_vec.ensures (c.fold_blocks.auto.blocks
     ∙ c.as_mut_slice-2.ensures.len) c.as_mut_slice-2.ensures.value c.into_vec-blocks.ensures c.in_ok-flow.ensures.params c.in_ok-fold_blocks.ensures
     ∙ ap fold_branches c.r.view_is

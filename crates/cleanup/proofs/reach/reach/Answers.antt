@@ -7,7 +7,8 @@ pub spread-init : goal.spread-init
 spread-init c =
     let marks : c.as_mut_slice.result.now ≡ replicate (length c.args.blocks.now) false = search rules in
     let found : c.in_ok-found.found.items ≡ [] = search rules in
-    init_as c.args.blocks.now c.as_mut_slice.result.now c.find.new.marks _ c.in_ok-found.found.items c.find.new.found.items c.in_ok-marks.marks.len c.requires.some
+    init_as c.args.blocks.now c.as_mut_slice.result.now c.find.new.marks _ c.in_ok-found.found.items c.find.new.found.items c.in_ok-marks.marks.len
+    c.requires.some
     marks found c.in_ok-find.ensures.marks c.in_ok-find.ensures.found (c.find.auto.marks ∙ c.as_mut_slice.ensures.len)
 
 pub bounds-blocks-index : goal.bounds-blocks-index
@@ -15,21 +16,24 @@ bounds-blocks-index c =
     let len : c.len.result ≡ length c.spread.found.items = c.len.ensures ∙ c.spread.found.ok.0 in
     let test = c.spread-test.true in
     let lt : c.spread.next < length c.spread.found.items = omega arith in
-    block_inside c.args.blocks.now c.spread.next c.spread.marks.items c.spread.found.items c.requires.inside c.spread.invariant lt c.index.result.now c.index.ensures
+    block_inside c.args.blocks.now c.spread.next c.spread.marks.items c.spread.found.items c.requires.inside c.spread.invariant lt c.index.result.now
+    c.index.ensures
 
 pub bounds-blocks-index-in-spread : goal.bounds-blocks-index-in-spread
 bounds-blocks-index-in-spread c =
     let len : c.len.result ≡ length c.spread.found.items = c.len.ensures ∙ c.spread.found.ok.0 in
     let test = c.spread-test.true in
     let lt : c.spread.next < length c.spread.found.items = omega arith in
-    block_inside c.args.blocks.now c.spread.next c.spread.marks.items c.spread.found.items c.requires.inside c.spread.invariant lt c.index.result.now c.index.ensures
+    block_inside c.args.blocks.now c.spread.next c.spread.marks.items c.spread.found.items c.requires.inside c.spread.invariant lt c.index.result.now
+    c.index.ensures
 
 pub find_targets-requires : goal.find_targets-requires
 find_targets-requires c =
     let len : c.len.result ≡ length c.spread.found.items = c.len.ensures ∙ c.spread.found.ok.0 in
     let test = c.spread-test.true in
     let lt : c.spread.next < length c.spread.found.items = omega arith in
-    block_names c.args.blocks.now c.spread.next c.spread.marks.items c.spread.found.items c.requires.inside c.spread.invariant lt c.index.result.now c.index.ensures
+    block_names c.args.blocks.now c.spread.next c.spread.marks.items c.spread.found.items c.requires.inside c.spread.invariant lt c.index.result.now
+    c.index.ensures
     c.index-blocks-index.result c.index-blocks-index.is (length c.as_mut_slice-in-spread.result.now) (ap length c.as_mut_slice-in-spread.ensures.value)
 
 pub spread-smaller : goal.spread-smaller

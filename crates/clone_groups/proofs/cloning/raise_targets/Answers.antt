@@ -19,4 +19,5 @@ raised_end-block-requires c =
     let now = c.loop-block.blocks in
     let i = c.loop-block.block-index in
     let lt : i < length now = omega (arith, c.loop-block-test.true, c.loop-block.auto.blocks) in
-    target_at c.args.blocks.now now i (get_or now i c.block-item.result) c.requires lt (ap (λ (y : Block). get_or now i y) c.block-item.is) c.loop-block.invariant.rest
+    target_at c.args.blocks.now now i (get_or now i c.block-item.result) c.requires lt (ap (λ (y : Block). get_or now i y) c.block-item.is)
+    c.loop-block.invariant.rest

@@ -12,7 +12,8 @@ returns-in-Some c =
     λ known. let es = c.args.groups.now.entries in
     let there = value_there es c.in-Some.at _ c.unwrap-sites.result c.get_index_mut.ensures.value c.unwrap-sites.ensures in
     on_ok_weaker c.add.result (λ h. ap (λ (j : Joint). groups_in (set_value_at es c.in-Some.at j)) h
-    ∙ joined_there c.args.key c.args.caller c.args.number c.args.count known es c.in-Some.at c.unwrap-sites.result.now (sym c.in-Some.ensures.index) there) c.add.ensures
+    ∙ joined_there c.args.key c.args.caller c.args.number c.args.count known es c.in-Some.at c.unwrap-sites.result.now (sym c.in-Some.ensures.index) there)
+    c.add.ensures
 
 pub returns-in-Ok : goal.returns-in-Ok
 returns-in-Ok c =

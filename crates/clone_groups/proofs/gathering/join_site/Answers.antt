@@ -17,7 +17,8 @@ returns-then-not-may_call_clone c =
 
 pub fixed_at-requires : goal.fixed_at-requires
 fixed_at-requires c =
-    let few = small_reads (map summary_of c.args.routines.now) c.args.main c.args.site.now.callee c.find.result c.in-Some.callee c.requires.few c.find.ensures c.in-Some.is in
+    let few = small_reads (map summary_of c.args.routines.now) c.args.main c.args.site.now.callee c.find.result c.in-Some.callee c.requires.few c.find.ensures
+    c.in-Some.is in
     let same = ap (λ (bs : List Bool). length bs) c.as_slice.ensures in
     omega arith
 

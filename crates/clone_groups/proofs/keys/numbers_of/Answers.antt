@@ -8,5 +8,6 @@ use Rattle.clone_groups.proofs.keys.numbers_of.Goals as goal
 pub returns : goal.returns
 returns c =
     ap fixed_in (sym (append-nil c.loop-param.numbers.items)
-    ∙ ap (λ (xs : List (ℕ × Word)). c.loop-param.numbers.items ++ numbers_of xs) (sym (drop_all c.loop-param.param-index c.args.fixed.now c.loop-param-test.false))
+    ∙ ap (λ (xs : List (ℕ × Word)). c.loop-param.numbers.items ++ numbers_of xs)
+    (sym (drop_all c.loop-param.param-index c.args.fixed.now c.loop-param-test.false))
     ∙ c.loop-param.invariant) ∙ numbers_fixed c.args.fixed.now

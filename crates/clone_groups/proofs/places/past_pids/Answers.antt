@@ -14,4 +14,5 @@ loop-routine-preserved c =
 
 pub returns : goal.returns
 returns c =
-    all_of_front (λ (r : Summary). r.pid < c.loop-routine.past) c.loop-routine.routine-index c.args.routines.now c.loop-routine-test.false c.loop-routine.invariant
+    all_of_front (λ (r : Summary). r.pid < c.loop-routine.past) c.loop-routine.routine-index c.args.routines.now c.loop-routine-test.false
+    c.loop-routine.invariant

@@ -13,8 +13,10 @@ invariant_of-result c =
     let count : c.count_sites-sites.result ≡ sites_of_blocks c.as_mut_slice.result.now
     = c.count_sites-sites.ensures ∙ ap sites_of_blocks (c.as_slice.ensures.value ∙ sym c.as_mut_slice.ensures.value) in
     subst IsWithinLimits
-    (sym (owned_is (the_view c.r.inside) c.args.moves.now c.into_vec-blocks.result.len c.count_sites-sites.result c.in_ok-table.table.items c.as_slice-2.result.now
-    c.as_mut_slice.result.now c.retarget_blocks.new.blocks _ c.from_vec.result c.from_vec.ensures (c.retarget_blocks.auto.blocks ∙ c.as_mut_slice.ensures.len) was count
+    (sym (owned_is (the_view c.r.inside) c.args.moves.now c.into_vec-blocks.result.len c.count_sites-sites.result c.in_ok-table.table.items
+    c.as_slice-2.result.now
+    c.as_mut_slice.result.now c.retarget_blocks.new.blocks _ c.from_vec.result c.from_vec.ensures (c.retarget_blocks.auto.blocks ∙ c.as_mut_slice.ensures.len)
+    was count
     c.in_ok-table.ensures.moves c.as_slice-2.ensures.value c.retarget_blocks.ensures))
     (retarget_within c.args.moves.now c.requires (the_view c.r.inside) c.r.invariant)
 
@@ -24,5 +26,7 @@ returns c =
     let count : c.count_sites-sites.result ≡ sites_of_blocks c.as_mut_slice.result.now
     = c.count_sites-sites.ensures ∙ ap sites_of_blocks (c.as_slice.ensures.value ∙ sym c.as_mut_slice.ensures.value) in
     owned_is (the_view c.r.inside) c.args.moves.now c.into_vec-blocks.result.len c.count_sites-sites.result c.in_ok-table.table.items c.as_slice-2.result.now
-    c.as_mut_slice.result.now c.retarget_blocks.new.blocks _ c.from_vec.result c.from_vec.ensures (c.retarget_blocks.auto.blocks ∙ c.as_mut_slice.ensures.len) was count
-    c.in_ok-table.ensures.moves c.as_slice-2.ensures.value c.retarget_blocks.ensures ∙ ap (λ (r : RoutineParts). retarget r (moves_of c.args.moves.now)) c.r.view_is
+    c.as_mut_slice.result.now c.retarget_blocks.new.blocks _ c.from_vec.result c.from_vec.ensures (c.retarget_blocks.auto.blocks ∙ c.as_mut_slice.ensures.len)
+    was count
+    c.in_ok-table.ensures.moves c.as_slice-2.ensures.value c.retarget_blocks.ensures ∙ ap (λ (r : RoutineParts). retarget r (moves_of c.args.moves.now))
+    c.r.view_is

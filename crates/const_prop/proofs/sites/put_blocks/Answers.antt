@@ -22,11 +22,15 @@ pub loop-b-preserved : goal.loop-b-preserved
 loop-b-preserved c =
     let sites : words_of c.put_sites.new.known ≡ words_of c.loop-b.known ++ words_in (known_in (facts_in c.enter.new.table) c.as_slice.result.now) =
     c.in_ok-put_sites.ensures.sites in
-    let facts : Has (length c.enter.new.table) c.put_sites.new.table (through c.as_slice.result.now (facts_in c.enter.new.table)) = c.in_ok-put_sites.ensures.facts in
-    put_next c.args.flow.now.regs c.args.flow.now.params c.args.blocks.now c.args.known.now c.loop-b.b c.index-blocks-b.result c.loop-b.flow c.enter.new.self c.leave.new.self
-    c.loop-b.table c.enter.new.table c.put_sites.new.table c.loop-b.known c.put_sites.new.known c.requires.named c.loop-b-test.true c.index-blocks-b.is c.loop-b.invariant
+    let facts : Has (length c.enter.new.table) c.put_sites.new.table (through c.as_slice.result.now (facts_in c.enter.new.table)) =
+    c.in_ok-put_sites.ensures.facts in
+    put_next c.args.flow.now.regs c.args.flow.now.params c.args.blocks.now c.args.known.now c.loop-b.b c.index-blocks-b.result c.loop-b.flow c.enter.new.self
+    c.leave.new.self
+    c.loop-b.table c.enter.new.table c.put_sites.new.table c.loop-b.known c.put_sites.new.known c.requires.named c.loop-b-test.true c.index-blocks-b.is
+    c.loop-b.invariant
     c.enter.ensures.size c.enter.ensures.starts c.enter.ensures.flow
-    (subst (λ (is : List Instr). words_of c.put_sites.new.known ≡ words_of c.loop-b.known ++ words_in (known_in (facts_in c.enter.new.table) is)) c.as_slice.ensures sites)
+    (subst (λ (is : List Instr). words_of c.put_sites.new.known ≡ words_of c.loop-b.known ++ words_in (known_in (facts_in c.enter.new.table) is))
+    c.as_slice.ensures sites)
     (subst (λ (is : List Instr). Has (length c.enter.new.table) c.put_sites.new.table (through is (facts_in c.enter.new.table))) c.as_slice.ensures facts)
     c.in_ok-leave.ensures
 

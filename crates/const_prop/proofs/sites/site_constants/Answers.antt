@@ -24,7 +24,9 @@ put_blocks-requires-clause-named c =
 pub returns : goal.returns
 returns c =
     c.in_ok-put_blocks.ensures
-    ∙ ap (λ (ws : List (List (Option Word))). words_of ws ++ words_in (known_from (bare c.in_ok-flow.flow.params c.as_slice-blocks.result.now) 0 c.as_slice-blocks.result.now))
+    ∙ ap (λ (ws : List (List (Option Word))). words_of ws ++ words_in
+    (known_from (bare c.in_ok-flow.flow.params c.as_slice-blocks.result.now) 0 c.as_slice-blocks.result.now))
     c.new-known.ensures
-    ∙ sites_are c.args.r.now c.in_ok-flow.flow.params c.as_slice-blocks.result.now (c.in_ok-flow.ensures.params ∙ ap (λ (r : RoutineParts). r.params) c.r.view_is)
+    ∙ sites_are c.args.r.now c.in_ok-flow.flow.params c.as_slice-blocks.result.now
+    (c.in_ok-flow.ensures.params ∙ ap (λ (r : RoutineParts). r.params) c.r.view_is)
     (c.as_slice-blocks.ensures ∙ ap (λ (r : RoutineParts). r.blocks) c.r.view_is)

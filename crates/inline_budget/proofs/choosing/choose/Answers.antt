@@ -15,7 +15,8 @@ use Rattle.inline_budget.specs.Tables.{brought}
 use Rattle.inline_budget.proofs.Filled.{pids_below}
 use Rattle.inline_budget.proofs.Seen.{all_seen}
 use Rattle.inline_budget.proofs.Chosen.{none_chosen}
-use Rattle.inline_budget.proofs.Offered.{back_is, calls_more, offered_brief, offered_callee, offered_caller, offered_callers, offered_extra, offered_inside, offering_end, offering_first, offering_passed, offering_refused, offering_taken, site_in}
+use Rattle.inline_budget.proofs.Offered.{back_is, calls_more, offered_brief, offered_callee, offered_caller, offered_callers, offered_extra}
+use Rattle.inline_budget.proofs.Offered.{offered_inside, offering_end, offering_first, offering_passed, offering_refused, offering_taken, site_in}
 use Rattle.inline_budget.proofs.choosing.choose.Goals as goal
 
 pub returns-in_default : goal.returns-in_default

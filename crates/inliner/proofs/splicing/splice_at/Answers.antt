@@ -45,15 +45,18 @@ invariant_of-result c =
     let place = c.args.place in
     let here = subst (λ (z : RoutineParts). (s : Site) × IsAt place z.blocks s) back c.requires.site in
     let was : c.as_mut_slice.result.now ≡ r.blocks = c.as_mut_slice.ensures.value ∙ c.into_vec-blocks.ensures in
-    let count : c.len-count.result ≡ length r.arrays = c.len-count.ensures ∙ c.into_vec-arrays.result.ok.0 ∙ ap (λ (l : List ℕ). length l) c.into_vec-arrays.ensures in
+    let count : c.len-count.result ≡ length r.arrays = c.len-count.ensures ∙ c.into_vec-arrays.result.ok.0 ∙ ap (λ (l : List ℕ). length l)
+    c.into_vec-arrays.ensures in
     let other : c.as_slice-2.result.now ≡ q.arrays = c.as_slice-2.ensures in
     let arrays : c.from_vec.result ≡ r.arrays ++ q.arrays = c.from_vec.ensures ∙ c.in-Ok-extend_from_slice.ensures.items
     ∙ ap₂ {A = List ℕ} {B = List ℕ} {C = List ℕ} (λ k l. k ++ l) c.into_vec-arrays.ensures other in
     let blocks : (s : Site) → IsAt place r.blocks s → c.from_vec-2.result ≡ spliced_blocks r.regs (length r.arrays) s q
     = λ s at. c.from_vec-2.ensures ∙ c.in-Ok.ensures s (subst (λ (xs : List Block). IsAt place xs s) (sym was) at)
-    ∙ ap (λ (k : ℕ). spliced_blocks r.regs k s c.args.callee.now) count ∙ ap (λ (z : RoutineParts). spliced_blocks r.regs (length r.arrays) s z) (sym c.callee.view_is) in
+    ∙ ap (λ (k : ℕ). spliced_blocks r.regs k s c.args.callee.now) count ∙ ap (λ (z : RoutineParts). spliced_blocks r.regs (length r.arrays) s z)
+    (sym c.callee.view_is) in
     let size : nat_le (blocks_size c.from_vec-2.result) max_size ≡ true
-    = ap (λ (xs : List Block). nat_le (blocks_size xs) max_size) (c.from_vec-2.ensures ∙ sym c.as_slice.ensures.value) ∙ sym c.are_few.ensures ∙ c.if-not-are_few.false in
+    = ap (λ (xs : List Block). nat_le (blocks_size xs) max_size) (c.from_vec-2.ensures ∙ sym c.as_slice.ensures.value) ∙ sym c.are_few.ensures ∙
+    c.if-not-are_few.false in
     let both = λ (P : RoutineParts → RoutineParts → Type 0) (h : P c.args.caller c.args.callee.now).
     of_both P c.args.caller c.args.callee.now r q back (sym c.callee.view_is) h in
     within r q place here c.caller.invariant c.callee.invariant c.from_vec.result c.from_vec-2.result

@@ -26,7 +26,8 @@ returns-in-Err-clause-bytes g c = λ trusted. takes_none _ (row_text (routine_in
 
 pub returns-in-Err-clause-pools : goal.returns-in-Err-clause-pools
 returns-in-Err-clause-pools g c =
-    leaves_err g.D.Disk.reach g.D.Disk.honest g.D.Disk.faults (Vec ℕ Global) (Unit {0}) c.args.loader.now c.read_text.new.loader c.in-Err.fault c.in-Err.ensures.pools
+    leaves_err g.D.Disk.reach g.D.Disk.honest g.D.Disk.faults (Vec ℕ Global)
+    (Unit {0}) c.args.loader.now c.read_text.new.loader c.in-Err.fault c.in-Err.ensures.pools
 
 pub returns-in-Err-clause-cause : goal.returns-in-Err-clause-cause
 returns-in-Err-clause-cause g c = stopped_cause (Unit {0}) _ c.in-Err.fault c.in-Err.ensures.stopped

@@ -1,8 +1,7 @@
-use Rattle.std.proofs.Common.{◌≡◌, Err, arith, le_trans, length, refl, subst, take}
+use Rattle.std.proofs.Common.{◌≡◌, Err, arith, le_trans, length, subst, take}
 use Rattle.std.proofs.Math.Nat.{le_refl}
 use Rattle.std.proofs.Math.Seq.{take-length}
 use Rattle.std.specs.Io.KnownBytes.{Appends}
-use Rattle.naim_loader.specs.Paged.{kept_at}
 use Rattle.plan_driver.specs.Contents.{routine_in, rows_text}
 use Rattle.plan_driver.proofs.Frames.{leaves_on, reads_itself, reads_on, trusted_on}
 use Rattle.plan_driver.proofs.Fronts.{output_since, takes_itself}

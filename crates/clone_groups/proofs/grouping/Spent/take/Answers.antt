@@ -9,7 +9,8 @@ use Rattle.clone_groups.proofs.grouping.Spent.take.Goals as goal
 
 pub returns-in_default-clause-clone : goal.returns-in_default-clause-clone
 returns-in_default-clause-clone c =
-    sym (if_false (Some c.args.self.now.next) None (no_room c.args.self.now c.args.limit (summary_of c.args.callee.now) c.args.fixed.now c.in_default.ensures.none))
+    sym (if_false (Some c.args.self.now.next) None (no_room c.args.self.now c.args.limit (summary_of c.args.callee.now) c.args.fixed.now
+    c.in_default.ensures.none))
 
 pub returns-in_default-clause-spent : goal.returns-in_default-clause-spent
 returns-in_default-clause-spent c =
@@ -19,13 +20,15 @@ returns-in_default-clause-spent c =
 pub returns-then-not-fits-clause-clone : goal.returns-then-not-fits-clause-clone
 returns-then-not-fits-clause-clone c =
     sym (if_false (Some c.args.self.now.next) None
-    (fits_is c.args.self.now c.args.limit (summary_of c.args.callee.now) c.args.fixed.now c.in-Some.size c.in-Some.ensures.some c.fits.result false c.fits.ensures
+    (fits_is c.args.self.now c.args.limit (summary_of c.args.callee.now) c.args.fixed.now c.in-Some.size c.in-Some.ensures.some c.fits.result false
+    c.fits.ensures
     c.if-not-fits.true))
 
 pub returns-then-not-fits-clause-spent : goal.returns-then-not-fits-clause-spent
 returns-then-not-fits-clause-spent c =
     sym (if_false (more_spent c.args.self.now (clone_numbers (summary_of c.args.callee.now) (fixed_in c.args.fixed.now))) c.args.self.now
-    (fits_is c.args.self.now c.args.limit (summary_of c.args.callee.now) c.args.fixed.now c.in-Some.size c.in-Some.ensures.some c.fits.result false c.fits.ensures
+    (fits_is c.args.self.now c.args.limit (summary_of c.args.callee.now) c.args.fixed.now c.in-Some.size c.in-Some.ensures.some c.fits.result false
+    c.fits.ensures
     c.if-not-fits.true))
 
 pub spend-requires-clause-cost : goal.spend-requires-clause-cost
@@ -48,12 +51,14 @@ spend-requires-clause-next c =
 pub returns-clause-clone : goal.returns-clause-clone
 returns-clause-clone c =
     ap (λ (s : Spent). Some s.next) c.self.view_is ∙ sym (if_true (Some c.args.self.now.next) None
-    (fits_is c.args.self.now c.args.limit (summary_of c.args.callee.now) c.args.fixed.now c.in-Some.size c.in-Some.ensures.some c.fits.result true c.fits.ensures
+    (fits_is c.args.self.now c.args.limit (summary_of c.args.callee.now) c.args.fixed.now c.in-Some.size c.in-Some.ensures.some c.fits.result true
+    c.fits.ensures
     c.if-not-fits.false))
 
 pub returns-clause-spent : goal.returns-clause-spent
 returns-clause-spent c =
     c.spend.ensures ∙ more_is c.args.self.now c.args.limit (summary_of c.args.callee.now) c.args.fixed.now c.in-Some.size c.in-Some.ensures.some
     ∙ sym (if_true (more_spent c.args.self.now (clone_numbers (summary_of c.args.callee.now) (fixed_in c.args.fixed.now))) c.args.self.now
-    (fits_is c.args.self.now c.args.limit (summary_of c.args.callee.now) c.args.fixed.now c.in-Some.size c.in-Some.ensures.some c.fits.result true c.fits.ensures
+    (fits_is c.args.self.now c.args.limit (summary_of c.args.callee.now) c.args.fixed.now c.in-Some.size c.in-Some.ensures.some c.fits.result true
+    c.fits.ensures
     c.if-not-fits.false))

@@ -16,7 +16,8 @@ loop-caller-preserved c =
           c.args.self.now.handed.items c.args.self.now.queue.items c.args.self.now.room c.args.more c.args.callers.now c.loop-caller.self.times.items
           c.loop-caller.self.queue.items c.loop-caller.self.room c.loop-caller.caller-index c.loop-caller.invariant.raising c.loop-caller-test.true
           c.requires.inside 0 c.raise.new.self.times.items c.push.new.self.items c.raise.new.self.room (c.if-not-raise.ensures.times refl)
-          (c.in_ok-push.ensures.items ∙ ap (λ (ks : List ℕ). ks ++ get_or c.args.callers.now c.loop-caller.caller-index 0 ∷ []) c.raise.ensures.queue) (c.if-not-raise.ensures.room refl) c.requires.some;
+          (c.in_ok-push.ensures.items ∙ ap (λ (ks : List ℕ). ks ++ get_or c.args.callers.now c.loop-caller.caller-index 0 ∷ []) c.raise.ensures.queue)
+          (c.if-not-raise.ensures.room refl) c.requires.some;
       handed = c.raise.ensures.handed ∙ c.loop-caller.invariant.handed;
     }
 
