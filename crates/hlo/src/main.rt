@@ -16,7 +16,7 @@ use std::{env, io};
 use stream::Stream;
 
 const HELP: &str = "\
-usage: hlo [--repo PATH] opt [--limit N] [--profile FILE] [--stats] FILE...
+usage: hlo [--repo PATH] opt [--limit N] [--passes N] [--profile FILE] [--stats] FILE...
                                     prints the IL of the program that the C modules in
                                     the FILEs make
        hlo check FILE...            checks that they make a program, and prints nothing
@@ -32,6 +32,7 @@ options: --turns N  at most N turns, 0 to 1000000000000 (1000000000 if not given
          --limit N  at most N bytes of routines lie in memory beside the one that is
                     worked at, 1 to 1073741824 (67108864 if not given); the others lie
                     on a scratch file
+         --passes N  passes over the program, 1 to 8 (4 if not given)
          --repo PATH  the scratch file, which is emptied (hlo.repo if not given)
          --stats    tells on standard error how much was kept and moved, and the costs
          --profile FILE  the counts of routines and calls are those of the profile in

@@ -14,9 +14,8 @@ use Rattle.linker.specs.Linking.{refusal}
 use Rattle.std.proofs.Common.{None}
 use Rattle.outside.specs.Told.{Told}
 use Rattle.sym_tables.specs.Table.{Table}
-use Rattle.hlo_cmd.specs.Check.{AsksCheck, CheckPromise}
+use Rattle.hlo_cmd.specs.Check.{AreWellTyped, AsksCheck, CheckPromise}
 use Rattle.hlo_cmd.specs.Messages.{program_refusal, refusal_line, refusal_status, words_refusal}
-use Rattle.hlo_cmd.specs.Modules.{AreAccepted}
 use Rattle.hlo_cmd.proofs.Verdicts.{by_acceptance, by_fault, by_words, not_both, want_is_memory}
 
 same_files : (words f g : List (List ℕ)) → AsksCheck words f → AsksCheck words g → f ≡ g
@@ -66,10 +65,10 @@ module _ (words : List (List ℕ)) (tells : List ℕ → Told) (before after : L
           (complete names (subst (λ l. AreWellFormedTexts tells l names) at formed) links (subst (AreQuiet before after) at quiet)));
     }
 
-    pub check_passes : status ≡ 0 → Said [] → AreAccepted tells files → (AreRefused tells files → ⊥) → CheckPromise words tells before after Said status
-    check_passes e said accepted never = record {
+    pub check_passes : status ≡ 0 → Said [] → AreWellTyped tells files → (AreRefused tells files → ⊥) → CheckPromise words tells before after Said status
+    check_passes e said typed never = record {
       known = inl e;
-      passed = λ zero. (record { files = files; asked = asked; holds = accepted }, said);
+      passed = λ zero. (record { files = files; asked = asked; holds = typed }, said);
       modules = by_acceptance (AsksCheck words) tells before after Said status (same_files words) files asked (inl e) never;
       complete = λ others names also formed links quiet. inl e;
     }

@@ -37,7 +37,8 @@ none_if : {X : Type 0} (b : Bool) (o : Option X) → o ≡ None → None ≡ (if
 none_if true o e = refl
 none_if false o e = sym e
 
-sum_without : (f : RoutineParts → ℕ) (n : ℕ) (rs : List RoutineParts) (p : RoutineParts) → routine_at rs n ≡ Some p → sum_by f rs ≡ f p + sum_by f (without n rs)
+sum_without : (f : RoutineParts → ℕ) (n : ℕ) (rs : List RoutineParts) (p : RoutineParts) → routine_at rs n ≡ Some p
+    → sum_by f rs ≡ f p + sum_by f (without n rs)
 sum_without f n [] p e = let bad : None ≡ Some p = e in absurd cc
 sum_without f n (r ∷ rs) p e = by (sum_without f n rs p) (nat_eq r.pid n) e
   where
@@ -74,7 +75,8 @@ own_without n (r ∷ rs) own = by (own_without n rs own.1) (nat_eq r.pid n)
 
 -- ---- the same routines
 
-pub same_sum : (f : RoutineParts → ℕ) (ps rs : List RoutineParts) → HaveOwnPids ps → HaveOwnPids rs → ((q : ℕ) → routine_at ps q ≡ routine_at rs q) → sum_by f ps ≡ sum_by f rs
+pub same_sum : (f : RoutineParts → ℕ) (ps rs : List RoutineParts) → HaveOwnPids ps → HaveOwnPids rs → ((q : ℕ) → routine_at ps q ≡ routine_at rs q)
+    → sum_by f ps ≡ sum_by f rs
 same_sum f [] [] a b h = refl
 same_sum f [] (r ∷ rs) a b h = let bad : None ≡ Some r = h r.pid ∙ rw (number_itself r.pid) refl in absurd cc
 same_sum f (p ∷ ps) rs a b h =
@@ -82,6 +84,7 @@ same_sum f (p ∷ ps) rs a b h =
     sum_by-cons f p ps ∙ ap (λ n. f p + n) (same_sum f ps (without p.pid rs) a.1 (own_without p.pid rs b) (λ q. rest q (nat_eq p.pid q) refl (h q)))
     ∙ sym (sum_without f p.pid rs p here)
   where
-    rest : (q : ℕ) (b : Bool) → nat_eq p.pid q ≡ b → (if nat_eq p.pid q then Some p else routine_at ps q) ≡ routine_at rs q → routine_at ps q ≡ routine_at (without p.pid rs) q
+    rest : (q : ℕ) (b : Bool) → nat_eq p.pid q ≡ b → (if nat_eq p.pid q then Some p else routine_at ps q) ≡ routine_at rs q
+        → routine_at ps q ≡ routine_at (without p.pid rs) q
     rest q true e k = subst (λ m. routine_at ps m ≡ None) (same_number p.pid q e) a.0 ∙ sym (at_without p.pid q rs b ∙ rw e refl)
     rest q false e k = sym (rw e refl) ∙ k ∙ sym (at_without p.pid q rs b ∙ rw e refl)

@@ -1,5 +1,6 @@
 -- Routines that go to the pools of a loader, one after another.
-use Rattle.std.proofs.Common.{◌≡◌, ◌≤◌, ◌<◌, ◌+◌, ◌^◌, ℕ, Bool, true, false, nat_eq, List, [], ◌∷◌, ◌++◌, length, map, Option, Some, None, IsSome, Ok, Err, inl, inr, refl, sym, ap, subst, arith, ◌∙◌}
+use Rattle.std.proofs.Common.{◌≡◌, ◌≤◌, ◌<◌, ◌+◌, ◌^◌, ℕ, Bool, true, false, nat_eq, List, [], ◌∷◌, ◌++◌, length, map, Option, Some, None, IsSome, Ok}
+use Rattle.std.proofs.Common.{Err, inl, inr, refl, sym, ap, subst, arith, ◌∙◌}
 use Rattle.std.specs.Prelude.{flat_map, option_map, if◌then◌else◌}
 use Rattle.std.specs.List.{AllByRecursion}
 use Rattle.std.proofs.lemmas.Bool.{cases_lt}
@@ -69,16 +70,19 @@ module _ {D : Type 0} (faults : D → ℕ) (old new : Paged RoutineBody (Unit {0
   kept_here = placed.kept r.pid ∙ rw (number_itself r.pid) refl
 
   elsewhere : (q : ℕ) → nat_eq r.pid q ≡ false → routine_in new q ≡ routine_in old q
-  elsewhere q e = ap (λ (k : Option (Kept RoutineBody (Unit {0}))). option_map (λ (b : RoutineBody). b.routine) (option_map (λ x. x.value) k)) (kept_elsewhere q e)
+  elsewhere q e = ap (λ (k : Option (Kept RoutineBody (Unit {0}))). option_map (λ (b : RoutineBody). b.routine) (option_map (λ x. x.value) k))
+      (kept_elsewhere q e)
 
   here : routine_in new r.pid ≡ Some r
   here = ap (λ (k : Option (Kept RoutineBody (Unit {0}))). option_map (λ (b : RoutineBody). b.routine) (option_map (λ x. x.value) k)) kept_here
 
   -- a pool that was there has another number
   other : (q : ℕ) → IsSome (kept_at old q) → nat_eq r.pid q ≡ false
-  other q some = other_number r.pid q (λ e. absurd (let none : kept_at old q ≡ None = subst (λ n. kept_at old n ≡ None) e free in let bad : false ≡ true = rw none at some in cc))
+  other q some = other_number r.pid q (λ e. absurd (let none : kept_at old q ≡ None = subst (λ n. kept_at old n ≡ None) e free in let bad : false ≡ true =
+      rw none at some in cc))
 
-  same_front : (qs : List ℕ) → AllByRecursion (λ q. IsSome (kept_at old q)) qs → flat_map (λ q. listed (routine_in new q)) qs ≡ flat_map (λ q. listed (routine_in old q)) qs
+  same_front : (qs : List ℕ) → AllByRecursion (λ q. IsSome (kept_at old q)) qs
+      → flat_map (λ q. listed (routine_in new q)) qs ≡ flat_map (λ q. listed (routine_in old q)) qs
   same_front [] h = refl
   same_front (q ∷ qs) (h, hs) = ap (λ o. listed o ++ flat_map (λ x. listed (routine_in new x)) qs) (elsewhere q (other q h))
       ∙ ap (λ l. listed (routine_in old q) ++ l) (same_front qs hs)
@@ -136,6 +140,17 @@ module _ {D : Type 0} (faults : D → ℕ) (old new : Paged RoutineBody (Unit {0
 -- no routine was put in yet
 pub none_yet : {D : Type 0} (limit : ℕ) (d : D) → inserted (fresh {B = Unit {0}} limit 1 d) ≡ []
 none_yet limit d = refl
+
+-- and the loader is ready for the first
+pub ready_for_first : {D : Type 0} (limit : ℕ) (d : D) → IsReady (fresh {B = Unit {0}} limit 1 d) [] 0
+ready_for_first limit d = record {
+  rests = record { alone = record { others = []; hands = refl; free = refl; closed = refl }; running = refl; home = refl };
+  filled = record { own = tt; same = λ q. refl; many = refl; there = tt };
+  short = tt;
+  pids_are = refl;
+  total_is = refl;
+  bound = omega arith;
+}
 
 -- a routine's pool that isn't there is none of those that were put in
 pub room_left : {D : Type 0} (l : Paged RoutineBody (Unit {0}) D) → IsFilled l → length (inserted l) < 4096 → length l.core.pools < 4096

@@ -8,6 +8,7 @@ pub mod ModuleRuns
 pub mod ModuleTrains
 pub mod OneByOne
 pub mod Opts
+pub mod Planned
 pub mod Pooled
 pub mod Printed
 pub mod Printings

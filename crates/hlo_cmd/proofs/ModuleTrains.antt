@@ -157,7 +157,8 @@ module _ (words : List (List ℕ)) (tells : List ℕ → Told) (shelf shelf_now 
           program = program;
           syms = syms;
           from = from;
-          ends = if_told (EndsCounted program turns e c) (TrainsOn program turns e text) left (λ bytes h. trains_on program turns e c text bytes written h) ends;
+          ends = if_told (EndsCounted program turns e c) (TrainsOn program turns e text) left (λ bytes h. trains_on program turns e c text bytes written h)
+              ends;
         }
 
         a_front : (k : ℕ) → PutsFront (names_of program c) k before after → TrainsFront words tells left before after

@@ -35,9 +35,11 @@ module _ {X : Type 0} (text : X → List ℕ) (xs : List X) (k : ℕ) (x d : X) 
       (m.0, subst (λ l. Appends a c (take m.0 l)) with_rest (subst (Appends a c) m.1 f.1))
 
 -- a line of numbers, each behind its words, as it lies in memory
-pub counts_of_borrowed : (counts : List (Bor (List ℕ) × ℕ)) → flat_map (λ c. c.0.now ++ decimal c.1) counts ++ 10 ∷ [] ≡ counts_line (map (λ c. (c.0.now, c.1)) counts)
+pub counts_of_borrowed : (counts : List (Bor (List ℕ) × ℕ))
+    → flat_map (λ c. c.0.now ++ decimal c.1) counts ++ 10 ∷ [] ≡ counts_line (map (λ c. (c.0.now, c.1)) counts)
 counts_of_borrowed counts = ap (λ l. l ++ 10 ∷ []) (go counts)
   where
-    go : (cs : List (Bor (List ℕ) × ℕ)) → flat_map (λ c. c.0.now ++ decimal c.1) cs ≡ flat_map (λ (c : List ℕ × ℕ). c.0 ++ decimal c.1) (map (λ c. (c.0.now, c.1)) cs)
+    go : (cs : List (Bor (List ℕ) × ℕ))
+        → flat_map (λ c. c.0.now ++ decimal c.1) cs ≡ flat_map (λ (c : List ℕ × ℕ). c.0 ++ decimal c.1) (map (λ c. (c.0.now, c.1)) cs)
     go [] = refl
     go (c ∷ cs) = ap (λ l. (c.0.now ++ decimal c.1) ++ l) (go cs)

@@ -1,11 +1,9 @@
 -- What `opt` came to, and what it promises.
-use Rattle.std.proofs.Common.{◌≡◌, ◌≢◌, ℕ, suc, ◌+◌, ◌^◌, ◌≤◌, ◌<◌, ◌⊎◌, Bool, true, false, List, [], ◌∷◌, Option, Some, None, length, min, take, nat_eq, refl, sym, ◌∙◌, ap, subst, inl, inr, arith}
-use Rattle.std.specs.Prelude.{IfSome, ⊤}
+use Rattle.std.proofs.Common.{◌≡◌, ℕ, suc, ◌^◌, ◌≤◌, ◌<◌, ◌⊎◌, false, List, Option, Some, None, length, nat_eq, refl, sym, ◌∙◌, ap, subst, inl, inr, arith}
+use Rattle.std.specs.Prelude.{IfSome}
 use Rattle.std.specs.Io.KnownBytes.{Appends, Keeps}
-use Rattle.std.proofs.Math.Path.{fun_ext}
 use Rattle.std.proofs.Math.Seq.{take-length}
 use Rattle.c_module.specs.Files.{IsCause}
-use Rattle.c_module.specs.Programs.{IsProgramOf}
 use Rattle.c_module.specs.Told.{AreQuiet, AreRefused, AreWellFormedTexts}
 use Rattle.c_module.specs.Verdict.{EndsAt}
 use Rattle.c_module.specs.declared.fault.FileFault.{FileFault}
@@ -25,7 +23,8 @@ use Rattle.std.specs.Borrow.{Bor}
 use Rattle.sym_tables.specs.Table.{Table}
 use Rattle.hlo_cmd.specs.Messages.{memory_line, profile_refusal, refusal_line, refusal_status, unread_line, words_refusal}
 use Rattle.hlo_cmd.specs.Modules.{StopsRefused, StopsUnread}
-use Rattle.hlo_cmd.specs.Opt.{AsksNothing, AsksOpt, HasBadProfile, HasFront, HasGoodProfile, IsOptStatus, IsQuiet, IsQuietProfile, OfAskedOpt, OptPromise, Prints, PrintsFront, StopsDamaged, StopsTooSmall, report_line}
+use Rattle.hlo_cmd.specs.Opt.{AsksNothing, AsksOpt, HasBadProfile, HasFront, HasGoodProfile, IsOptStatus, IsQuiet, IsQuietProfile, OfAskedOpt}
+use Rattle.hlo_cmd.specs.Opt.{OptPromise, Prints, PrintsFront, StopsDamaged, StopsTooSmall, report_line}
 use Rattle.hlo_cmd.specs.Paging.{HasPrinted, IsAtPrinting, IsLate, IsOptCause, IsUnreadRefusal}
 use Rattle.hlo_cmd.specs.Profiles.{HasCounts, HoldsBadLine, HoldsProfile, IsBadLine, IsProfileCause, IsProfileCauseOf, IsProfileText}
 use Rattle.hlo_cmd.specs.declared.profiles.ProfileFault.{ProfileFault}
@@ -51,6 +50,14 @@ limit_in : (o : Option (List ℕ)) (n : ℕ) → IsValue 67108864 1 1073741824 o
 limit_in None n e = omega (arith, e)
 limit_in (Some text) n h = let most = h.most in omega arith
 
+-- there is at least one pass
+passes_in : (o : Option (List ℕ)) (n : ℕ) → IsValue 4 1 8 o n → 0 < n
+passes_in None n e = omega (arith, e)
+passes_in (Some text) n h = let least = h.least in omega arith
+
+pub passes_some : (words : List (List ℕ)) (s : OptSettings) → AsksOpt words s → 0 < s.passes
+passes_some words s asked = passes_in _ s.passes asked.settings.passes
+
 pub limit_most : (words : List (List ℕ)) (s : OptSettings) → AsksOpt words s → s.limit ≤ 2 ^ 30
 limit_most words s asked = limit_in _ s.limit asked.settings.limit
 
@@ -71,7 +78,8 @@ cause_since number old new (file_fault.NoModule fault) told first then now le ca
 cause_since number old new file_fault.CannotRead told first then now le cause = rose_since first then now le cause
 cause_since number old new file_fault.Memory told first then now le cause = cause
 
-ends_since : (fault : FileFault) (files : List (List ℕ)) (file : List ℕ) (tells : List ℕ → Told) (first then now : List ℕ → ℕ) (syms : Table) → NoneFalls first then
+ends_since : (fault : FileFault) (files : List (List ℕ)) (file : List ℕ) (tells : List ℕ → Told) (first then now : List ℕ → ℕ) (syms : Table)
+    → NoneFalls first then
     → EndsAt tells then now files file fault syms → EndsAt tells first now files file fault syms
 ends_since fault files file tells first then now syms later cause = record {
   earlier = cause.earlier;
@@ -95,7 +103,8 @@ no_bad_line told bytes p n e good bad = go (subst (λ (t : Told). HoldsBadLine t
 no_profile : (told : Told) (bytes : List ℕ) (p : Profiled) → told ≡ Holds bytes → ((q : Profiled) → IsProfileText bytes q → ⊥) → HoldsProfile told p → ⊥
 no_profile told bytes p e none held = none p (subst (λ (t : Told). HoldsProfile t p) e held)
 
-module _ (words : List (List ℕ)) (tells : List ℕ → Told) (shelf shelf_now : List ℕ → ℕ) (before after : Option (List ℕ)) (out out_now : ℕ) (good : ℕ → Type 0) (disk disk_now : ℕ)
+module _ (words : List (List ℕ)) (tells : List ℕ → Told) (shelf shelf_now : List ℕ → ℕ) (before after : Option (List ℕ)) (out out_now : ℕ) (good : ℕ → Type 0)
+    (disk disk_now : ℕ)
     (Said : List ℕ → Type 0) (status : ℕ) where
   Promise : Option Report → Type 0
   Promise report = OptPromise words tells shelf shelf_now before after out out_now good disk disk_now Said status report
@@ -124,7 +133,8 @@ module _ (words : List (List ℕ)) (tells : List ℕ → Told) (shelf shelf_now 
   }
 
   pub opt_words : (syms : Table) (fault : WordsFault) → status ≡ refusal_status (words_refusal fault) → Said (refusal_line syms (words_refusal fault))
-      → (fault ≡ words_fault.Usage → AsksNothing words) → Keeps before after → OptPromise words tells shelf shelf_now before after out out_now good disk disk_now Said status None
+      → (fault ≡ words_fault.Usage → AsksNothing words) → Keeps before after
+      → OptPromise words tells shelf shelf_now before after out out_now good disk disk_now Said status None
   unfolding Promise
   opt_words syms words_fault.Usage e said none kept = record {
     known = known status 2 e (omega arith) (omega arith);
@@ -193,7 +203,15 @@ module _ (words : List (List ℕ)) (tells : List ℕ → Told) (shelf shelf_now 
           unusable = λ none. absurd (none s asked);
           refused = λ three. not_both status 5 3 e three refl;
           bad_profile = λ four. not_both status 5 4 e four refl;
-          unread = λ five. inl (record { name = name; settings = s; asked = asked; named = is; rose = cause; said = subst (λ (n : List ℕ). Said (unread_line n)) same said });
+          unread = λ five. inl (record {
+            name = name;
+            settings = s;
+            asked = asked;
+            named = is;
+            rose = cause;
+            said = subst (λ (n : List ℕ). Said (unread_line n))
+                same said;
+          });
           memory = λ ten. not_both status 5 10 e ten refl;
           printed = λ zero. not_both status 5 0 e zero refl;
           unwritten = λ six. not_both status 5 6 e six refl;
@@ -216,13 +234,15 @@ module _ (words : List (List ℕ)) (tells : List ℕ → Told) (shelf shelf_now 
     unfolding Promise
     opt_profile file syms fault named e said cause kept = go s.profile refl named cause
       where
-        go : (q : Option (List ℕ)) → s.profile ≡ q → IfSome q (λ (name : List ℕ). file.now ≡ name) → IsProfileCauseOf fault q tells shelf shelf_now → Promise None
+        go : (q : Option (List ℕ)) → s.profile ≡ q → IfSome q (λ (name : List ℕ). file.now ≡ name) → IsProfileCauseOf fault q tells shelf shelf_now
+            → Promise None
         go None is h c = absurd c
         go (Some name) is h c = named_fault name file syms fault is h e said c kept
 
     module _ (counts : Counts) (counted : HasCounts tells s.profile counts) where
       -- memory ran out behind the profile, before anything was put out
-      pub opt_memory : status ≡ 10 → Said memory_line → Keeps before after → OptPromise words tells shelf shelf_now before after out out_now good disk disk_now Said status None
+      pub opt_memory : status ≡ 10 → Said memory_line → Keeps before after
+          → OptPromise words tells shelf shelf_now before after out out_now good disk disk_now Said status None
       unfolding Promise
       opt_memory e said kept = by_memory e said (inl kept)
 
@@ -272,7 +292,6 @@ module _ (words : List (List ℕ)) (tells : List ℕ → Told) (shelf shelf_now 
             go refusals.Usage e said cause reads complete unprinted = absurd cause
             go (refusals.Profile line) e said cause reads complete unprinted = absurd cause
             go (refusals.Text fault) e said cause reads complete unprinted = absurd cause
-            go (refusals.Unfit pid) e said cause reads complete unprinted = absurd cause
             go refusals.CannotReadInput e said cause reads complete unprinted = absurd cause
             go (refusals.Module file fault) e said cause reads complete unprinted =
                 let kept = cause.1 in
@@ -281,7 +300,14 @@ module _ (words : List (List ℕ)) (tells : List ℕ → Told) (shelf shelf_now 
                   usage = λ two. not_both status 3 2 e two refl;
                   unusable = λ none. absurd (none s asked);
                   refused = λ three. asks (λ x c. StopsRefused tells shelf shelf_now Said x.files)
-                      (inl (record { file = file.now; fault = fault; names = names; ends = ends_since (file_fault.NoModule fault) s.files file.now tells shelf shelf_then shelf_now names later cause.0; said = said }));
+                      (inl (record {
+                        file = file.now;
+                        fault = fault;
+                        names = names;
+                        ends = ends_since (file_fault.NoModule fault) s.files file.now tells shelf
+                            shelf_then shelf_now names later cause.0;
+                        said = said;
+                      }));
                   bad_profile = λ four. not_both status 3 4 e four refl;
                   unread = λ five. not_both status 3 5 e five refl;
                   memory = λ ten. not_both status 3 10 e ten refl;
@@ -294,7 +320,8 @@ module _ (words : List (List ℕ)) (tells : List ℕ → Told) (shelf shelf_now 
                   quiet = λ q. kept;
                   refuses = λ q also good_one refused calm quiet whole. inl e;
                   refuses_profile = λ q other also named bad calm. absurd (not_bad q other also named bad);
-                  complete = λ q ns also reaches good_one formed links calm quiet writes whole. absurd (complete ns (subst (λ l. AreWellFormedTexts tells l ns) (same_files q also) formed) links (quiet_then q also quiet));
+                  complete = λ q ns also reaches good_one formed links calm quiet writes whole.
+                      absurd (complete ns (subst (λ l. AreWellFormedTexts tells l ns) (same_files q also) formed) links (quiet_then q also quiet));
                 }
             go (refusals.Link fault) e said cause reads complete unprinted =
                 let kept = cause.1 in
@@ -316,7 +343,8 @@ module _ (words : List (List ℕ)) (tells : List ℕ → Told) (shelf shelf_now 
                   quiet = λ q. kept;
                   refuses = λ q also good_one refused calm quiet whole. inl e;
                   refuses_profile = λ q other also named bad calm. absurd (not_bad q other also named bad);
-                  complete = λ q ns also reaches good_one formed links calm quiet writes whole. absurd (complete ns (subst (λ l. AreWellFormedTexts tells l ns) (same_files q also) formed) links (quiet_then q also quiet));
+                  complete = λ q ns also reaches good_one formed links calm quiet writes whole.
+                      absurd (complete ns (subst (λ l. AreWellFormedTexts tells l ns) (same_files q also) formed) links (quiet_then q also quiet));
                 }
             go (refusals.CannotRead file) e said cause reads complete unprinted =
                 let kept = cause.1 in
@@ -327,7 +355,13 @@ module _ (words : List (List ℕ)) (tells : List ℕ → Told) (shelf shelf_now 
                   refused = λ three. not_both status 5 3 e three refl;
                   bad_profile = λ four. not_both status 5 4 e four refl;
                   unread = λ five. inr (asks (λ x c. StopsUnread tells shelf shelf_now Said x.files)
-                      (record { file = file.now; names = names; ends = ends_since file_fault.CannotRead s.files file.now tells shelf shelf_then shelf_now names later cause.0; said = said }));
+                      (record {
+                        file = file.now;
+                        names = names;
+                        ends = ends_since file_fault.CannotRead s.files file.now tells shelf shelf_then shelf_now names
+                            later cause.0;
+                        said = said;
+                      }));
                   memory = λ ten. not_both status 5 10 e ten refl;
                   printed = λ zero. not_both status 5 0 e zero refl;
                   unwritten = λ six. not_both status 5 6 e six refl;
@@ -389,7 +423,10 @@ module _ (words : List (List ℕ)) (tells : List ℕ → Told) (shelf shelf_now 
               printed = λ zero. not_both status 8 0 e zero refl;
               unwritten = λ six. not_both status 8 6 e six refl;
               failed = λ seven. not_both status 8 7 e seven refl;
-              damaged = λ eight. asks (StopsDamaged good Said) (record { distrusted = cause.1; record_told = inl (place, (kept_one, (found, (cause.0, said)))) });
+              damaged = λ eight. asks (StopsDamaged good Said) (record {
+                distrusted = cause.1;
+                record_told = inl (place, (kept_one, (found, (cause.0, said))));
+              });
               small = λ nine. not_both status 8 9 e nine refl;
               front = whole_front cause.2;
               quiet = λ q. prints status 8 e refl refl refl refl refl q;
@@ -408,7 +445,26 @@ module _ (words : List (List ℕ)) (tells : List ℕ → Told) (shelf shelf_now 
               printed = λ zero. not_both status 8 0 e zero refl;
               unwritten = λ six. not_both status 8 6 e six refl;
               failed = λ seven. not_both status 8 7 e seven refl;
-              damaged = λ eight. asks (StopsDamaged good Said) (record { distrusted = cause.0; record_told = inr (place, said) });
+              damaged = λ eight. asks (StopsDamaged good Said) (record { distrusted = cause.0; record_told = inr (inl (place, said)) });
+              small = λ nine. not_both status 8 9 e nine refl;
+              front = whole_front cause.1;
+              quiet = λ q. prints status 8 e refl refl refl refl refl q;
+              refuses = λ q also good_one refused calm quiet whole. absurd (unprinted (refused_as q also refused) tt);
+              refuses_profile = λ q other also named bad calm. absurd (not_bad q other also named bad);
+              complete = λ q ns also reaches good_one formed links calm quiet writes whole. absurd (cause.0 (good_as q also reaches));
+            }
+            go (refusals.Unfit pid) e said cause reads complete unprinted = record {
+              known = known status 8 e (omega arith) (omega arith);
+              usage = λ two. not_both status 8 2 e two refl;
+              unusable = λ none. absurd (none s asked);
+              refused = λ three. not_both status 8 3 e three refl;
+              bad_profile = λ four. not_both status 8 4 e four refl;
+              unread = λ five. not_both status 8 5 e five refl;
+              memory = λ ten. not_both status 8 10 e ten refl;
+              printed = λ zero. not_both status 8 0 e zero refl;
+              unwritten = λ six. not_both status 8 6 e six refl;
+              failed = λ seven. not_both status 8 7 e seven refl;
+              damaged = λ eight. asks (StopsDamaged good Said) (record { distrusted = cause.0; record_told = inr (inr (pid, said)) });
               small = λ nine. not_both status 8 9 e nine refl;
               front = whole_front cause.1;
               quiet = λ q. prints status 8 e refl refl refl refl refl q;
@@ -430,7 +486,7 @@ module _ (words : List (List ℕ)) (tells : List ℕ → Told) (shelf shelf_now 
                   unwritten = λ six. not_both status 9 6 e six refl;
                   failed = λ seven. not_both status 9 7 e seven refl;
                   damaged = λ eight. not_both status 9 8 e eight refl;
-                  small = λ nine. asks (StopsTooSmall tells Said) (record { pid = pid; need = need; limit = limit; small = cause.0; said = said });
+                  small = λ nine. asks (StopsTooSmall tells good Said) (record { pid = pid; need = need; limit = limit; small = cause.0; said = said });
                   front = inl kept;
                   quiet = λ q. kept;
                   refuses = λ q also good_one refused calm quiet whole. inr (inl e);
@@ -440,24 +496,30 @@ module _ (words : List (List ℕ)) (tells : List ℕ → Told) (shelf shelf_now 
             go refusals.Memory e said cause reads complete unprinted = by_memory e said (whole_front cause)
 
         -- the text was put out
-        pub opt_printed : (report : Report) (total : ℕ) → status ≡ 0 → HasPrinted tells good before after s counts names total → Said (report_line s.stats report)
-            → report.under_peak ≤ s.limit → report.cost_before ≡ total → report.cost_after ≡ total → (AreRefused tells s.files → ⊥)
+        pub opt_printed : (report : Report) (total after_plan : ℕ) → status ≡ 0 → HasPrinted tells good before after s counts names total after_plan
+            → Said (report_line s.stats report) → report.under_peak ≤ s.limit → report.cost_before ≡ total → report.cost_after ≡ after_plan
+            → (AreRefused tells s.files → ⊥)
             → OptPromise words tells shelf shelf_now before after out out_now good disk disk_now Said status (Some report)
-        opt_printed report total e h said peak cost_before cost_after never =
+        opt_printed report total after_plan e h said peak cost_before cost_after never =
+            let before_is = cost_before ∙ h.total_is in
+            let less = h.planned.cheaper in
             let whole : Prints tells good before after Said report s counts = record {
+              lowered = h.lowered;
               program = h.program;
               syms = names;
-              from = h.from;
+              planned = h.planned;
               printed = h.printed;
               peak = peak;
-              cost_before = cost_before ∙ h.total_is;
-              cost_after = cost_after ∙ h.total_is;
+              cost_before = before_is;
+              cost_after = λ g. cost_after ∙ h.after_is g;
+              no_more = λ g. let after_is = cost_after ∙ h.after_is g in rw (before_is, after_is) less;
               said = said;
             } in
             let front : PrintsFront tells good before after s counts = record {
+              lowered = h.lowered;
               program = h.program;
               syms = names;
-              from = h.from;
+              planned = h.planned;
               printed = λ g. (length (text h.program), subst (Appends before after) (sym (take-length (text h.program))) (h.printed g));
             } in
             record {

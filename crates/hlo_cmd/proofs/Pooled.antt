@@ -22,7 +22,8 @@ use Rattle.hlo_cmd.proofs.Costs.{own_rising, same_sum}
 use Rattle.hlo_cmd.specs.Pools.{IsFilled, inserted}
 
 -- each of some routines by rising PID is found by its number
-found_from : (all : List RoutineParts) (n : ℕ) (rs : List RoutineParts) → ((q : ℕ) → n < q → routine_at all q ≡ routine_at rs q) → IsRisingFrom (λ r. r.pid) n rs
+found_from : (all : List RoutineParts) (n : ℕ) (rs : List RoutineParts) → ((q : ℕ) → n < q → routine_at all q ≡ routine_at rs q)
+    → IsRisingFrom (λ r. r.pid) n rs
     → AllByRecursion (λ r. routine_at all r.pid ≡ Some r) rs
 found_from all n [] h rise = tt
 found_from all n (r ∷ rs) h rise =
@@ -31,7 +32,7 @@ found_from all n (r ∷ rs) h rise =
       found_from all r.pid rs (λ q lt. h q (omega (arith, above, lt)) ∙ found_there (λ x. x.pid) q r rs (λ e. omega (arith, lt, e))) rise.1,
     )
 
-all_found : (rs : List RoutineParts) → IsRising (λ r. r.pid) rs → AllByRecursion (λ r. routine_at rs r.pid ≡ Some r) rs
+pub all_found : (rs : List RoutineParts) → IsRising (λ r. r.pid) rs → AllByRecursion (λ r. routine_at rs r.pid ≡ Some r) rs
 all_found [] rise = tt
 all_found (r ∷ rs) rise = (
   found_here (λ x. x.pid) r.pid r rs refl,
@@ -39,16 +40,18 @@ all_found (r ∷ rs) rise = (
 )
 
 module _ {B D : Type 0} (l : Paged RoutineBody B D) where
-  found_in_pools : (all rs : List RoutineParts) → ((q : ℕ) → routine_in l q ≡ routine_at all q) → AllByRecursion (λ r. routine_at all r.pid ≡ Some r) rs
+  pub found_in_pools : (all rs : List RoutineParts) → ((q : ℕ) → routine_in l q ≡ routine_at all q) → AllByRecursion (λ r. routine_at all r.pid ≡ Some r) rs
       → AllByRecursion (λ r. routine_in l r.pid ≡ Some r) rs
   found_in_pools all [] same h = tt
   found_in_pools all (r ∷ rs) same h = (same r.pid ∙ h.0, found_in_pools all rs same h.1)
 
-  some_kept : (o : Option (Kept RoutineBody B)) (r : RoutineParts) → option_map (λ (b : RoutineBody). b.routine) (option_map (λ k. k.value) o) ≡ Some r → IsSome o
+  some_kept : (o : Option (Kept RoutineBody B)) (r : RoutineParts) → option_map (λ (b : RoutineBody). b.routine) (option_map (λ k. k.value) o) ≡ Some r
+      → IsSome o
   some_kept None r e = let bad : None ≡ Some r = e in absurd cc
   some_kept (Some k) r e = refl
 
-  pools_there : (rs : List RoutineParts) → AllByRecursion (λ r. routine_in l r.pid ≡ Some r) rs → AllByRecursion (λ p. IsSome (kept_at l p)) (map (λ (r : RoutineParts). r.pid) rs)
+  pools_there : (rs : List RoutineParts) → AllByRecursion (λ r. routine_in l r.pid ≡ Some r) rs
+      → AllByRecursion (λ p. IsSome (kept_at l p)) (map (λ (r : RoutineParts). r.pid) rs)
   pools_there [] h = tt
   pools_there (r ∷ rs) h = (some_kept (kept_at l r.pid) r h.0, pools_there rs h.1)
 
@@ -69,4 +72,5 @@ module _ {B D : Type 0} (l : Paged RoutineBody B D) where
 
     -- its cost is that of what was put in
     pub frame_cost : cost (inserted l) ≡ cost frame.program.routines
-    frame_cost = sym (same_sum (λ r. size r ^ 2) frame.program.routines (inserted l) (own_rising frame.program.routines frame.is.valid.routines) filled.own frame.routines)
+    frame_cost = sym (same_sum (λ r. size r ^ 2) frame.program.routines (inserted l) (own_rising frame.program.routines frame.is.valid.routines) filled.own
+        frame.routines)

@@ -14,9 +14,11 @@ use Rattle.il_run.specs.Run.{EndsAs, IfTold}
 use Rattle.outside.specs.Faults.{Rose}
 use Rattle.outside.specs.Told.{Told, Holds}
 use Rattle.hlo_cmd.specs.Messages.{ending_status, refusal_status, words_refusal}
-use Rattle.hlo_cmd.specs.RunIl.{ComesTo, HasNoSettings, HoldsProgram, HoldsProgramFault, IsOnlyProgramText, IsProgramText, IsRunIlCause, RunIlPromise, RunsToEnd, outcome_status}
+use Rattle.hlo_cmd.specs.RunIl.{ComesTo, HasNoSettings, HoldsProgram, HoldsProgramFault, IsOnlyProgramText, IsProgramText, IsRunIlCause, RunIlPromise}
+use Rattle.hlo_cmd.specs.RunIl.{RunsToEnd, outcome_status}
 use Rattle.hlo_cmd.specs.declared.refusal.Refusal.{Refusal}
-use Rattle.hlo_cmd.specs.declared.refusal.Refusal.TheVariants.{Usage, Module, Link, Profile, Text, CannotRead, CannotWrite, Repository, Damaged, Unreadable, Unfit, TooSmall, CannotReadInput, Memory}
+use Rattle.hlo_cmd.specs.declared.refusal.Refusal.TheVariants.{Usage, Module, Link, Profile, Text, CannotRead, CannotWrite, Repository, Damaged}
+use Rattle.hlo_cmd.specs.declared.refusal.Refusal.TheVariants.{Unreadable, Unfit, TooSmall, CannotReadInput, Memory}
 use Rattle.hlo_cmd.specs.declared.refusal.TextFault.{TextFault}
 use Rattle.hlo_cmd.proofs.Endings.{same_status}
 

@@ -1,5 +1,6 @@
 -- Why a program wasn't put out through pools: each refusal with its cause.
-use Rattle.std.proofs.Common.{◌≡◌, ◌≤◌, ◌<◌, ◌++◌, ℕ, Bool, true, false, List, [], ◌∷◌, length, map, take, Option, Some, None, IsSome, Result, Ok, Err, inl, refl, sym, ap, subst, ◌∙◌, le_trans}
+use Rattle.std.proofs.Common.{◌≡◌, ◌≤◌, ◌<◌, ◌++◌, ℕ, Bool, true, false, List, [], ◌∷◌, length, map, Option, Some, None, IsSome, Result, Ok, Err, inl}
+use Rattle.std.proofs.Common.{inr, refl, sym, ap, subst, ◌∙◌, le_trans}
 use Rattle.std.specs.Prelude.{IfErr, IfSome}
 use Rattle.std.specs.Io.KnownBytes.{Keeps}
 use Rattle.std.specs.List.{AllByRecursion}
@@ -31,7 +32,7 @@ use Rattle.profile.specs.Counts.{Counts}
 use Rattle.sym_tables.specs.Table.{Table}
 use Rattle.hlo_cmd.specs.Messages.{loader_refusal, program_refusal}
 use Rattle.hlo_cmd.specs.Opt.{HasFront, IsTooSmall}
-use Rattle.hlo_cmd.specs.Paging.{IsAtPrinting, IsFillingCause, IsLate, IsOptCause, IsUnreadRefusal}
+use Rattle.hlo_cmd.specs.Paging.{IsAtPrinting, IsFillingCause, IsLate, IsOptCause, IsPlanningCause, IsUnreadRefusal}
 use Rattle.hlo_cmd.specs.Pools.{GoesOn, IsReady, RefusesRoutine, inserted}
 use Rattle.hlo_cmd.specs.declared.refusal.Refusal.{Refusal}
 use Rattle.hlo_cmd.specs.declared.refusal.Refusal.TheVariants as refusal
@@ -69,7 +70,8 @@ unread_program (program_fault.Link fault) none h = h
 unread_program program_fault.Memory none h = h
 
 -- routines that fit, as functions whose routines do
-all_fit : (limit : ℕ) (syms : Table) (counts : Counts) (fs : List Function) → AllByRecursion (λ (r : RoutineParts). length (compact r) ≤ limit) (map (routine_of syms counts) fs)
+all_fit : (limit : ℕ) (syms : Table) (counts : Counts) (fs : List Function)
+    → AllByRecursion (λ (r : RoutineParts). length (compact r) ≤ limit) (map (routine_of syms counts) fs)
     → AllByRecursion (λ f. length (compact (routine_of syms counts f)) ≤ limit) fs
 all_fit limit syms counts [] h = tt
 all_fit limit syms counts (f ∷ fs) h = (h.0, all_fit limit syms counts fs h.1)
@@ -108,7 +110,7 @@ module _ (tells : List ℕ → Told) (s : OptSettings) (counts : Counts) (names 
   filling_unprinted refusal.Repository cause h = h
   filling_unprinted (refusal.Damaged place kept found) cause h = cause
   filling_unprinted (refusal.Unreadable place) cause h = cause
-  filling_unprinted (refusal.Unfit pid) cause h = h
+  filling_unprinted (refusal.Unfit pid) cause h = cause
   filling_unprinted (refusal.TooSmall pid need limit) cause h = h
   filling_unprinted refusal.CannotReadInput cause h = cause
   filling_unprinted refusal.Memory cause h = h
@@ -128,12 +130,31 @@ module _ (tells : List ℕ → Told) (s : OptSettings) (counts : Counts) (names 
     filling_told (refusal.Damaged place kept found) keeps cause = absurd cause
     filling_told (refusal.Unreadable place) keeps cause = absurd cause
     filling_told (refusal.Unfit pid) keeps cause = absurd cause
-    filling_told (refusal.TooSmall pid need limit) keeps cause = (cause, keeps)
+    filling_told (refusal.TooSmall pid need limit) keeps cause = (inl cause, keeps)
     filling_told refusal.CannotReadInput keeps cause = absurd cause
     filling_told refusal.Memory keeps cause = inl keeps
 
+    -- the same where the plan wasn't made
+    pub planned_told : (r : Refusal) → Keeps before after → IsPlanningCause tells good s counts names disk disk_now r
+        → IsOptCause tells good before after s counts names shelf shelf_now out out_now disk disk_now r
+    planned_told refusal.Usage keeps cause = absurd cause
+    planned_told (refusal.Module file fault) keeps cause = absurd cause
+    planned_told (refusal.Link fault) keeps cause = absurd cause
+    planned_told (refusal.Profile line) keeps cause = absurd cause
+    planned_told (refusal.Text fault) keeps cause = absurd cause
+    planned_told (refusal.CannotRead file) keeps cause = absurd cause
+    planned_told refusal.CannotWrite keeps cause = absurd cause
+    planned_told refusal.Repository keeps cause = (cause, inl keeps)
+    planned_told (refusal.Damaged place kept found) keeps cause = (cause.0, cause.1, inl keeps)
+    planned_told (refusal.Unreadable place) keeps cause = (cause, inl keeps)
+    planned_told (refusal.Unfit pid) keeps cause = (cause, inl keeps)
+    planned_told (refusal.TooSmall pid need limit) keeps cause = (inr cause, keeps)
+    planned_told refusal.CannotReadInput keeps cause = absurd cause
+    planned_told refusal.Memory keeps cause = inl keeps
+
     -- the loader stopped while the text was put out
-    pub printing_told : {T B D : Type 0} (reach : D → ℕ) (honest : D → Bool) (faults : D → ℕ) (l : Paged T B D) (f : Failure) → (good s.limit → IsTrusted reach honest l)
+    pub printing_told : {T B D : Type 0} (reach : D → ℕ) (honest : D → Bool) (faults : D → ℕ) (l : Paged T B D) (f : Failure)
+        → (good s.limit → IsTrusted reach honest l)
         → ReadCause reach honest faults l disk disk_now f → HasFront tells good before after s counts
         → IsOptCause tells good before after s counts names shelf shelf_now out out_now disk disk_now (loader_refusal f)
     printing_told reach honest faults l failure.Repository trusted cause front = (cause, front)
@@ -195,7 +216,8 @@ module _ {T D : Type 0} (loader : T → Paged RoutineBody (Unit {0}) D) (pids : 
       ∙ ap (λ l. l ++ map (routine_of syms counts) refused.refused.one.earlier) refused.up_to
       ∙ sym (map-append (routine_of syms counts) (functions_of refused.ts) refused.refused.one.earlier)
 
-  small : (need l : ℕ) → need ≡ length (compact r) → l ≡ (loader refused.refused.one.at).core.limit → (loader refused.refused.one.at).core.limit < length (compact r)
+  small : (need l : ℕ) → need ≡ length (compact r) → l ≡ (loader refused.refused.one.at).core.limit
+      → (loader refused.refused.one.at).core.limit < length (compact r)
       → IsTooSmall tells s counts r.pid need l
   small need l need_is limit_is long =
       record {
@@ -247,7 +269,8 @@ module _ {T D : Type 0} (loader : T → Paged RoutineBody (Unit {0}) D) (pids : 
   kept_told shelf shelf_now told h = by (loader new).core.failure (λ f is. refused_told shelf shelf_now f is) keeps_failure h
     where
       by : (o : Option Failure)
-          → ((f : Failure) → o ≡ Some f → IsFillingCause tells s counts syms shelf shelf_now (faults (loader old).disk) (faults (loader new).disk) (loader_refusal f))
+          → ((f : Failure) → o ≡ Some f → IsFillingCause tells s counts syms shelf shelf_now (faults (loader old).disk) (faults (loader new).disk)
+          (loader_refusal f))
           → IsSome o → IfSome o (λ f. told ≡ loader_refusal f)
           → IsFillingCause tells s counts syms shelf shelf_now (faults (loader old).disk) (faults (loader new).disk) told
       by None cause some is = let bad : false ≡ true = some in absurd cc

@@ -1,5 +1,6 @@
 -- The lines of counts, one routine and one call site after the other.
-use Rattle.std.proofs.Common.{◌≡◌, ℕ, zero, suc, ◌+◌, ◌<◌, ◌≤◌, List, [], ◌∷◌, ◌++◌, Option, Some, None, Result, Ok, Err, IfErr, get_or, drop, take, length, map, refl, ap, sym, ◌∙◌, subst, arith}
+use Rattle.std.proofs.Common.{◌≡◌, ℕ, zero, suc, ◌+◌, ◌<◌, ◌≤◌, List, [], ◌∷◌, ◌++◌, Option, Some, None, Result, Ok, Err, IfErr, get_or, drop, take}
+use Rattle.std.proofs.Common.{length, map, refl, ap, sym, ◌∙◌, subst, arith}
 use Rattle.std.specs.Prelude.{option_map, flat_map}
 use Rattle.std.specs.List.{range_with_len}
 use Rattle.std.proofs.lemmas.List.{drop_more, length-map}
@@ -49,7 +50,8 @@ site_next n k cs x now new start lt read set before =
     ∙ ap (λ (ds : List ℕ). sets (site_lines_from n k ds) now) (sym (drop_read cs k x lt read)) ∙ before
 
 -- one routine more
-pub routine_next : (shapes : List ShapeRow) (rs : List RoutineParts) (es : List ℕ) (ss : List (List ℕ)) (i : ℕ) (r : RoutineParts) (s : List ℕ) (now new start : Profiled)
+pub routine_next : (shapes : List ShapeRow) (rs : List RoutineParts) (es : List ℕ) (ss : List (List ℕ)) (i : ℕ) (r : RoutineParts) (s : List ℕ)
+    (now new start : Profiled)
     → i < length rs → r ≡ get_or rs i r → i < length es → i < length ss → s ≡ get_or ss i s
     → new ≡ sets (routine_lines (name_at shapes r.pid) (get_or es i 0) s) now
     → sets (counted_lines shapes (drop i rs) (drop i es) (drop i ss)) now ≡ start
@@ -64,7 +66,8 @@ routine_next shapes rs es ss i r s now new start lr ri le ls si set before =
     ∙ ap (λ (ts : List (List ℕ)). sets (counted_lines shapes (drop i rs) (drop i es) ts) now) (sym (drop_read ss i s ls si))
     ∙ before
 
-site_lines_are : (n : List ℕ) (f : ℕ → ℕ) (k count : ℕ) → site_lines_from n k (map f (range_with_len k count)) ≡ map (λ j. Site n j (f j)) (range_with_len k count)
+site_lines_are : (n : List ℕ) (f : ℕ → ℕ) (k count : ℕ)
+    → site_lines_from n k (map f (range_with_len k count)) ≡ map (λ j. Site n j (f j)) (range_with_len k count)
 site_lines_are n f k zero = refl
 site_lines_are n f k (suc count) = ap (λ (ls : List Line). Site n k (f k) ∷ ls) (site_lines_are n f (k + 1) count)
 
@@ -78,7 +81,8 @@ lines_are shapes calls (r ∷ rs) =
     let count : ℕ = sites_of_blocks r.blocks in
     let counts : List ℕ = map (λ k. site_count calls r k) (range_with_len 0 count) in
     ap (λ (ls : List Line). Entry n (entered n (entry_count calls r)) ∷ (site_lines_from n 0 counts ++ ls)) (lines_are shapes calls rs)
-    ∙ ap (λ (ls : List Line). Entry n (entered n (entry_count calls r)) ∷ (ls ++ flat_map (trained_lines shapes calls) rs)) (site_lines_are n (λ k. site_count calls r k) 0 count)
+    ∙ ap (λ (ls : List Line). Entry n (entered n (entry_count calls r)) ∷ (ls ++ flat_map (trained_lines shapes calls) rs))
+    (site_lines_are n (λ k. site_count calls r k) 0 count)
 
 -- a routine has no more call sites than instructions
 sites_fit : (is : List Instr) → sites_of is ≤ length is
@@ -111,7 +115,8 @@ sites_within (b ∷ bs) =
     omega arith
 
 -- the counts of a routine's call sites are as many as these
-pub sites_at : (rs : List RoutineParts) (ss : List (List ℕ)) (i : ℕ) (r : RoutineParts) (s : List ℕ) → map length ss ≡ map (λ q. sites_of_blocks q.blocks) rs → i < length rs
+pub sites_at : (rs : List RoutineParts) (ss : List (List ℕ)) (i : ℕ) (r : RoutineParts) (s : List ℕ) → map length ss ≡ map (λ q. sites_of_blocks q.blocks) rs
+    → i < length rs
     → r ≡ get_or rs i r → s ≡ get_or ss i s → length s ≡ sites_of_blocks r.blocks
 sites_at [] ss i r s same lt read got = absurd (omega arith)
 sites_at (q ∷ rs) [] i r s same lt read got = absurd cc
@@ -129,10 +134,18 @@ pub as_many : (rs : List RoutineParts) (ss : List (List ℕ)) → map length ss 
 as_many rs ss same = same_lengths (λ (s : List ℕ). length s) (λ (q : RoutineParts). sites_of_blocks q.blocks) ss rs same
 
 -- what was put out of a profile's text
-pub puts : (names : Names) (before after : Option (List ℕ)) (r : Result (Unit {0}) PrintFault) (text bytes : List ℕ) (p : Profiled) → TakesAll before after r bytes → bytes ≡ text
+pub puts : (names : Names) (before after : Option (List ℕ)) (r : Result (Unit {0}) PrintFault) (text bytes : List ℕ) (p : Profiled)
+    → TakesAll before after r bytes → bytes ≡ text
     → IsWritten text p → p ≡ Some names → IfErr r (λ f. f ≡ print_fault.Output) → PutsProfile names before after r
 puts names before after (Ok u) text bytes p took same written is none =
     record { text = text; written = subst (IsWritten text) is written; gained = subst (Appends before after) same took }
-puts names before after (Err print_fault.Output) text bytes p took same written is none =
-    (took.0, record { text = text; written = subst (IsWritten text) is written; gained = subst (λ (bs : List ℕ). Appends before after (take took.0 bs)) same took.1 })
+puts names before after (Err print_fault.Output) text bytes p took same written is none = (
+  took.0,
+  record {
+    text = text;
+    written = subst (IsWritten text) is written;
+    gained = subst (λ (bs : List ℕ). Appends before after (take took.0 bs)) same
+        took.1;
+  },
+)
 puts names before after (Err print_fault.Memory) text bytes p took same written is none = absurd cc

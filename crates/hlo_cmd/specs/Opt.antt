@@ -10,20 +10,26 @@ use Rattle.c_module.specs.Told.{AreQuiet, AreRefused, AreWellFormedTexts}
 use Rattle.c_module.specs.Verdict.{HoldWellFormed}
 use Rattle.c_tree.specs.declared.declaration.Module.{Module}
 use Rattle.c_typed.specs.declared.function.TypedModule.{TypedModule}
+use Rattle.c_typed.specs.Linked.{c90_run}
 use Rattle.c_typed.specs.Trees.{Function}
 use Rattle.c_typed.specs.Views.{functions_of}
 use Rattle.compact_form.specs.Compact.{compact}
 use Rattle.hlo_words.specs.Settings.{IsOptSettings}
 use Rattle.hlo_words.specs.declared.settings.OptSettings.{OptSettings}
 use Rattle.il_core.specs.declared.program.IlProgram.{IlProgram}
+use Rattle.il_core.specs.Meaning.{il_run}
 use Rattle.il_core.specs.Size.{cost}
 use Rattle.il_core.specs.Text.{text}
+use Rattle.il_core.specs.Valid.{IsProgram}
 use Rattle.linker.specs.Linking.{refusal}
 use Rattle.outside.specs.Faults.{Rose}
 use Rattle.outside.specs.Told.{Told, Holds}
+use Rattle.plan_driver.specs.Planning.{IsNeed}
+use Rattle.plan_laws.specs.Plan.{final, plan}
 use Rattle.profile.specs.Counts.{Counts, Profiled}
 use Rattle.sym_tables.specs.Table.{Table}
-use Rattle.hlo_cmd.specs.Messages.{damaged_line, memory_line, profile_line, repository_line, small_line, stats_line, unread_line, unreadable_line, unwritten_line, usage_line}
+use Rattle.hlo_cmd.specs.Messages.{damaged_line, memory_line, profile_line, repository_line, small_line, stats_line, unfit_line, unread_line}
+use Rattle.hlo_cmd.specs.Messages.{unreadable_line, unwritten_line, usage_line}
 use Rattle.hlo_cmd.specs.Modules.{StopsRefused, StopsUnread}
 use Rattle.hlo_cmd.specs.Profiles.{HasCounts, HoldsBadLine, IsProfileText}
 use Rattle.hlo_cmd.specs.Words.{asked_command}
@@ -49,24 +55,37 @@ pub record OfAskedOpt (words : List (List ℕ)) (tells : List ℕ → Told) (Hol
 abbrev pub report_line : Bool → Report → List ℕ
 report_line stats r = if stats then stats_line r else []
 
--- Over a good disk the text of the lowered program of the files was put out; the bytes that nobody held stayed within the
--- limit; the costs are the program's, and the report's line was told where the words ask for it.
+-- The lowered program of the files, and the last one of its plan, where nothing may be spent: that is valid, prints, traps and
+-- ends as the linked modules do, for every input and every number of turns, and costs no more. It is the same for every limit.
+pub record IsPlanned (tells : List ℕ → Told) (s : OptSettings) (counts : Counts) (lowered planned : IlProgram) (syms : Table) : Type 0 where
+  pub from : IsProgramOf counts tells s.files lowered syms
+  pub is : planned ≡ final lowered 0 s.passes
+  pub valid : IsProgram planned
+  pub runs : (input : List ℕ) (turns : ℕ) → il_run planned input turns ≡ c90_run from.ts syms input turns
+  pub cheaper : cost planned.routines ≤ cost lowered.routines
+
+-- Over a good disk the text of the planned program of the files was put out; the bytes that nobody held stayed within the limit;
+-- the costs are those of the lowered program and, over a good disk, of the planned one; and the report's line was told where the
+-- words ask for it.
 pub record Prints (tells : List ℕ → Told) (good : ℕ → Type 0) (before after : Option (List ℕ)) (Said : List ℕ → Type 0) (report : Report) (s : OptSettings)
     (counts : Counts) : Type 0 where
+  pub lowered : IlProgram
   pub program : IlProgram
   pub syms : Table
-  pub from : IsProgramOf counts tells s.files program syms
+  pub planned : IsPlanned tells s counts lowered program syms
   pub printed : good s.limit → Appends before after (text program)
   pub peak : report.under_peak ≤ s.limit
-  pub cost_before : report.cost_before ≡ cost program.routines
-  pub cost_after : report.cost_after ≡ cost program.routines
+  pub cost_before : report.cost_before ≡ cost lowered.routines
+  pub cost_after : good s.limit → report.cost_after ≡ cost program.routines
+  pub no_more : good s.limit → report.cost_after ≤ report.cost_before
   pub said : Said (report_line s.stats report)
 
 -- over a good disk a front of that text was put out
 pub record PrintsFront (tells : List ℕ → Told) (good : ℕ → Type 0) (before after : Option (List ℕ)) (s : OptSettings) (counts : Counts) : Type 0 where
+  pub lowered : IlProgram
   pub program : IlProgram
   pub syms : Table
-  pub from : IsProgramOf counts tells s.files program syms
+  pub planned : IsPlanned tells s counts lowered program syms
   pub printed : good s.limit → (front : ℕ) × Appends before after (take front (text program))
 
 -- nothing was put out, or, over a good disk, a front of that text
@@ -100,19 +119,31 @@ pub record IsTooSmall (tells : List ℕ → Told) (s : OptSettings) (counts : Co
   pub need_is : need ≡ length (compact (routine_of syms counts function))
   pub limit_is : limit ≡ s.limit
 
--- that is so, and its line was told
-pub record StopsTooSmall (tells : List ℕ → Told) (Said : List ℕ → Type 0) (s : OptSettings) (counts : Counts) : Type 0 where
+-- All routines of the files fit, but the compact form of one that the plan makes of them is longer than the limit: over a good
+-- disk it is that of a routine of one of the plan's programs.
+pub record IsTooSmallToPlan (tells : List ℕ → Told) (good : ℕ → Type 0) (s : OptSettings) (counts : Counts) (pid need limit : ℕ) : Type 0 where
+  pub lowered : IlProgram
+  pub syms : Table
+  pub from : IsProgramOf counts tells s.files lowered syms
+  pub fit : AllByRecursion (λ r. length (compact r) ≤ s.limit) lowered.routines
+  pub routine : good s.limit → IsNeed (plan lowered 0 s.passes) pid need
+  pub long : s.limit < need
+  pub limit_is : limit ≡ s.limit
+
+-- one of the two is so, and its line was told
+pub record StopsTooSmall (tells : List ℕ → Told) (good : ℕ → Type 0) (Said : List ℕ → Type 0) (s : OptSettings) (counts : Counts) : Type 0 where
   pub pid : ℕ
   pub need : ℕ
   pub limit : ℕ
-  pub small : IsTooSmall tells s counts pid need limit
+  pub small : IsTooSmall tells s counts pid need limit ⊎ IsTooSmallToPlan tells good s counts pid need limit
   pub said : Said (small_line pid need limit)
 
 -- A record on the scratch disk, which isn't good, has other bytes than those that were put there, by their SHA-256, or bytes
--- that are no such routine's; and its line was told.
+-- that are no such routine's, or those of a routine that isn't the one that was put there; and its line was told.
 pub record StopsDamaged (good : ℕ → Type 0) (Said : List ℕ → Type 0) (s : OptSettings) (counts : Counts) : Type 0 where
   pub distrusted : good s.limit → ⊥
-  pub record_told : ((place : ℕ) × ((kept : List ℕ) × ((found : List ℕ) × ((found ≢ kept) × Said (damaged_line place kept found))))) ⊎ ((place : ℕ) × Said (unreadable_line place))
+  pub record_told : ((place : ℕ) × ((kept : List ℕ) × ((found : List ℕ) × ((found ≢ kept) × Said (damaged_line place kept found)))))
+      ⊎ (((place : ℕ) × Said (unreadable_line place)) ⊎ ((pid : ℕ) × Said (unfit_line pid)))
 
 -- there is a report, and it is so
 abbrev pub IfSomeReport : (Report → Type 0) → Option Report → Type 0
@@ -166,11 +197,11 @@ IsQuiet status = (status ≡ 2) ⊎ ((status ≡ 3) ⊎ (status ≡ 5))
 abbrev pub IsOptStatus : ℕ → Type 0
 IsOptStatus status = (status ≡ 0) ⊎ ((2 ≤ status) × (status ≤ 10))
 
--- What `opt` promises: at 0 the text of the lowered program of the files, with the counts of the profile that is named, was put
+-- What `opt` promises: at 0 the text of the planned program of the files, with the counts of the profile that is named, was put
 -- out, over a good disk, and the report told where the words ask for it; 2 says that the words ask for nothing, 3 that the verdict
 -- on the files is a refusal, 4 that the profile's file is none, 5 that it or one of the files couldn't be read, 6 that the count of
 -- the sink rose, 7 that the disk's did, 8 that the disk isn't good and a record was changed, 9 that the limit is too small for a
--- routine of the files, each with its line; whatever the status a front of that text was put out, over a good disk, and nothing
+-- routine of the files or of their plan, each with its line; whatever the status a front of that text was put out, over a good disk, and nothing
 -- at 2, 3, 4, 5 and 9; and where files are told, and no count rose, those that are to be refused are, a profile that is none is, and
 -- well formed modules that link, over a good disk, are answered with 0, if memory and the limit suffice.
 pub record OptPromise (words : List (List ℕ)) (tells : List ℕ → Told) (shelf shelf_now : List ℕ → ℕ) (before after : Option (List ℕ)) (out out_now : ℕ)
@@ -186,13 +217,14 @@ pub record OptPromise (words : List (List ℕ)) (tells : List ℕ → Told) (she
   pub unwritten : status ≡ 6 → Rose out out_now × OfAskedOpt words tells (PrintsFront tells good before after) × Said unwritten_line
   pub failed : status ≡ 7 → Rose disk disk_now × OfAskedOpt words tells (HasFront tells good before after) × Said repository_line
   pub damaged : status ≡ 8 → OfAskedOpt words tells (StopsDamaged good Said)
-  pub small : status ≡ 9 → OfAskedOpt words tells (StopsTooSmall tells Said)
+  pub small : status ≡ 9 → OfAskedOpt words tells (StopsTooSmall tells good Said)
   pub front : Keeps before after ⊎ OfAskedOpt words tells (PrintsFront tells good before after)
   pub quiet : IsQuiet status ⊎ ((status ≡ 4) ⊎ (status ≡ 9)) → Keeps before after
   pub refuses : (s : OptSettings) → AsksOpt words s → HasGoodProfile tells s.profile → AreRefused tells s.files
       → IsQuietProfile shelf shelf_now s.profile → AreQuiet shelf shelf_now s.files → (Rose disk disk_now → ⊥)
       → (status ≡ 3) ⊎ ((status ≡ 9) ⊎ (status ≡ 10))
-  pub refuses_profile : (s : OptSettings) (name : List ℕ) → AsksOpt words s → s.profile ≡ Some name → HasBadProfile tells name → (Rose (shelf name) (shelf_now name) → ⊥)
+  pub refuses_profile : (s : OptSettings) (name : List ℕ) → AsksOpt words s → s.profile ≡ Some name → HasBadProfile tells name
+      → (Rose (shelf name) (shelf_now name) → ⊥)
       → (status ≡ 4) ⊎ (status ≡ 10)
   pub complete : (s : OptSettings) (names : Table) → AsksOpt words s → good s.limit → HasGoodProfile tells s.profile
       → AreWellFormedTexts tells s.files names → refusal names ≡ None

@@ -1,28 +1,64 @@
--- What came of putting out the lowered program of files through the pools of a loader.
-use Rattle.std.specs.Prelude.{◌≡◌, ◌≢◌, ℕ, List, Option, ⊤}
+-- What came of making the plan of the program of files in the pools of a loader, and of putting it out from there.
+use Rattle.std.specs.Prelude.{◌≡◌, ◌≢◌, ◌⊎◌, ℕ, Bool, List, Option, ⊤}
 use Rattle.std.specs.Io.KnownBytes.{Appends, Keeps}
-use Rattle.c_module.specs.Programs.{IsProgramOf}
 use Rattle.c_module.specs.Verdict.{EndsAt, IsUnlinked}
 use Rattle.c_module.specs.declared.fault.FileFault.TheVariants.{NoModule, CannotRead}
+use Rattle.compact_form.specs.declared.body.RoutineBody.{RoutineBody}
 use Rattle.hlo_words.specs.declared.settings.OptSettings.{OptSettings}
 use Rattle.il_core.specs.declared.program.IlProgram.{IlProgram}
+use Rattle.il_core.specs.declared.shape.ShapeRow.{ShapeRow}
+use Rattle.il_core.specs.Object.{ObjectParts}
 use Rattle.il_core.specs.Size.{cost}
 use Rattle.il_core.specs.Text.{text}
+use Rattle.naim_loader.specs.Paged.{Paged, IsTrusted}
 use Rattle.outside.specs.Faults.{Rose}
 use Rattle.outside.specs.Told.{Told}
+use Rattle.plan_driver.specs.Contents.{HoldsProgram}
 use Rattle.profile.specs.Counts.{Counts}
 use Rattle.sym_tables.specs.Table.{Table}
-use Rattle.hlo_cmd.specs.Opt.{HasFront, IsTooSmall, PrintsFront}
+use Rattle.hlo_cmd.specs.Opt.{HasFront, IsPlanned, IsTooSmall, IsTooSmallToPlan, PrintsFront}
 use Rattle.hlo_cmd.specs.declared.refusal.Refusal.{Refusal}
 use Rattle.hlo_cmd.specs.declared.refusal.Refusal.TheVariants as refusal
 
-module _ (tells : List ℕ → Told) (good : ℕ → Type 0) (before after : Option (List ℕ)) (s : OptSettings) (counts : Counts) (names : Table) where
-  -- over a good disk the text was put out, and this is the program's cost
-  pub record HasPrinted (total : ℕ) : Type 0 where
+module _ (tells : List ℕ → Told) (good : ℕ → Type 0) (s : OptSettings) (counts : Counts) (names : Table) where
+  -- Over a good disk the planned program lies in the pools, with these rows and objects, and the second number is its cost; the
+  -- first one is that of the lowered program.
+  pub record HasPlanned {D : Type 0} (reach : D → ℕ) (honest : D → Bool) (l : Paged RoutineBody (Unit {0}) D) (rows : List ShapeRow) (os : List ObjectParts)
+      (total after_plan : ℕ) : Type 0 where
+    pub lowered : IlProgram
     pub program : IlProgram
-    pub from : IsProgramOf counts tells s.files program names
+    pub planned : IsPlanned tells s counts lowered program names
+    pub trusted : good s.limit → IsTrusted reach honest l
+    pub held : good s.limit → HoldsProgram l rows os program
+    pub total_is : total ≡ cost lowered.routines
+    pub after_is : good s.limit → after_plan ≡ cost program.routines
+
+  -- why it wasn't made there
+  abbrev pub IsPlanningCause : ℕ → ℕ → Refusal → Type 0
+  IsPlanningCause disk disk_now refusal.Usage = ⊥
+  IsPlanningCause disk disk_now (refusal.Module file fault) = ⊥
+  IsPlanningCause disk disk_now (refusal.Link fault) = ⊥
+  IsPlanningCause disk disk_now (refusal.Profile line) = ⊥
+  IsPlanningCause disk disk_now (refusal.Text fault) = ⊥
+  IsPlanningCause disk disk_now (refusal.CannotRead file) = ⊥
+  IsPlanningCause disk disk_now refusal.CannotWrite = ⊥
+  IsPlanningCause disk disk_now refusal.Repository = Rose disk disk_now
+  IsPlanningCause disk disk_now (refusal.Damaged place kept found) = (found ≢ kept) × (good s.limit → ⊥)
+  IsPlanningCause disk disk_now (refusal.Unreadable place) = good s.limit → ⊥
+  IsPlanningCause disk disk_now (refusal.Unfit pid) = good s.limit → ⊥
+  IsPlanningCause disk disk_now (refusal.TooSmall pid need limit) = IsTooSmallToPlan tells good s counts pid need limit
+  IsPlanningCause disk disk_now refusal.CannotReadInput = ⊥
+  IsPlanningCause disk disk_now refusal.Memory = ⊤
+
+module _ (tells : List ℕ → Told) (good : ℕ → Type 0) (before after : Option (List ℕ)) (s : OptSettings) (counts : Counts) (names : Table) where
+  -- over a good disk the text was put out; the costs are those of the lowered program and, over a good disk, of the planned one
+  pub record HasPrinted (total after_plan : ℕ) : Type 0 where
+    pub lowered : IlProgram
+    pub program : IlProgram
+    pub planned : IsPlanned tells s counts lowered program names
     pub printed : good s.limit → Appends before after (text program)
-    pub total_is : total ≡ cost program.routines
+    pub total_is : total ≡ cost lowered.routines
+    pub after_is : good s.limit → after_plan ≡ cost program.routines
 
   module _ (shelf shelf_now : List ℕ → ℕ) (out out_now disk disk_now : ℕ) where
     -- why it wasn't: each refusal with its cause, and what was put out
@@ -37,8 +73,9 @@ module _ (tells : List ℕ → Told) (good : ℕ → Type 0) (before after : Opt
     IsOptCause refusal.Repository = Rose disk disk_now × HasFront tells good before after s counts
     IsOptCause (refusal.Damaged place kept found) = (found ≢ kept) × (good s.limit → ⊥) × HasFront tells good before after s counts
     IsOptCause (refusal.Unreadable place) = (good s.limit → ⊥) × HasFront tells good before after s counts
-    IsOptCause (refusal.Unfit pid) = ⊥
-    IsOptCause (refusal.TooSmall pid need limit) = IsTooSmall tells s counts pid need limit × Keeps before after
+    IsOptCause (refusal.Unfit pid) = (good s.limit → ⊥) × HasFront tells good before after s counts
+    IsOptCause (refusal.TooSmall pid need limit) = (IsTooSmall tells s counts pid need limit ⊎ IsTooSmallToPlan tells good s counts pid need limit) × Keeps
+        before after
     IsOptCause refusal.CannotReadInput = ⊥
     IsOptCause refusal.Memory = HasFront tells good before after s counts
 
@@ -82,9 +119,10 @@ abbrev pub IsUnreadRefusal : Refusal → Type 0
 IsUnreadRefusal (refusal.CannotRead file) = ⊤
 IsUnreadRefusal _ = ⊥
 
--- the program's text was about to be put out, so that the files were accepted
+-- the plan was about to be made or put out, so that the files were accepted
 abbrev pub IsAtPrinting : Refusal → Type 0
 IsAtPrinting refusal.CannotWrite = ⊤
 IsAtPrinting (refusal.Damaged place kept found) = ⊤
 IsAtPrinting (refusal.Unreadable place) = ⊤
+IsAtPrinting (refusal.Unfit pid) = ⊤
 IsAtPrinting _ = ⊥

@@ -61,6 +61,14 @@ pub record GoesOn {B D : Type 0} (faults : D → ℕ) (old new : Paged RoutineBo
   pub stays : Stays faults old new
   pub home : old.home ≡ true → new.home ≡ true
 
+-- What stays over all that is done with a loader: its limit, the disk that it was made with, and the disk that is at home, whose
+-- count of faults doesn't fall.
+pub record Remains {B D : Type 0} (faults : D → ℕ) (old new : Paged RoutineBody B D) : Type 0 where
+  pub limit : new.core.limit ≡ old.core.limit
+  pub first : new.first ≡ old.first
+  pub later : faults old.disk ≤ faults new.disk
+  pub home : old.home ≡ true → new.home ≡ true
+
 -- The routine was refused: the loader keeps the failure, for its cause.
 pub record RefusesRoutine {B D : Type 0} (faults : D → ℕ) (old new : Paged RoutineBody B D) (r : RoutineParts) : Type 0 where
   pub failure : Failure

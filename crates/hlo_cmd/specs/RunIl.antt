@@ -19,7 +19,8 @@ use Rattle.outside.specs.Told.{Told, Untold, Absent, Holds}
 use Rattle.hlo_cmd.specs.Messages.{ending_line, ending_status, refusal_line, refusal_status, words_refusal}
 use Rattle.hlo_cmd.specs.Sizes.{most_bytes}
 use Rattle.hlo_cmd.specs.declared.refusal.Refusal.{Refusal}
-use Rattle.hlo_cmd.specs.declared.refusal.Refusal.TheVariants.{Usage, Module, Link, Profile, Text, CannotRead, CannotWrite, Repository, Damaged, Unreadable, Unfit, TooSmall, CannotReadInput, Memory}
+use Rattle.hlo_cmd.specs.declared.refusal.Refusal.TheVariants.{Usage, Module, Link, Profile, Text, CannotRead, CannotWrite, Repository, Damaged}
+use Rattle.hlo_cmd.specs.declared.refusal.Refusal.TheVariants.{Unreadable, Unfit, TooSmall, CannotReadInput, Memory}
 use Rattle.hlo_cmd.specs.declared.refusal.TextFault.{TextFault}
 use Rattle.hlo_cmd.specs.declared.refusal.TextFault.TheVariants.{TooLong, At}
 

@@ -60,13 +60,14 @@ pub record TrainsFront (words : List (List ℕ)) (tells : List ℕ → Told) (le
   pub gained : Appends before after (take front text)
 
 -- the whole of it was put out, and the status and the line are those of the ending
-pub record TrainsWhole (words : List (List ℕ)) (tells : List ℕ → Told) (left before after : Option (List ℕ)) (Said : List ℕ → Type 0) (status : ℕ) : Type 0 where
-  pub ending : Ending
-  pub text : List ℕ
-  pub came : OfAskedTrain words (Trains tells left ending text)
-  pub gained : Appends before after text
-  pub status_is : status ≡ ending_status ending
-  pub said : Said (ending_line ending)
+pub record TrainsWhole (words : List (List ℕ)) (tells : List ℕ → Told) (left before after : Option (List ℕ)) (Said : List ℕ → Type 0) (status : ℕ) : Type 0
+  where
+    pub ending : Ending
+    pub text : List ℕ
+    pub came : OfAskedTrain words (Trains tells left ending text)
+    pub gained : Appends before after text
+    pub status_is : status ≡ ending_status ending
+    pub said : Said (ending_line ending)
 
 -- What `train` promises: at 0, 12 and 13 the lowered program of the files, which has the run of the linked modules, ends so,
 -- and the sink gained the text of the profile of its calls, and nothing else; at 6 the count of the sink rose, and at 11 that of

@@ -20,7 +20,8 @@ pub(crate) fn serve_check<S: Shelf, E: Sink>(
     shelf: &mut S,
     err: &mut E,
 ) -> Status
-    ensures promise { CheckPromise (map string_bytes words.now) (S.tells shelf.old) (S.faults shelf.old) (S.faults shelf.new) (Says (E.taken err.old) (E.taken err.new) (E.faults err.old) (E.faults err.new)) result.0 }
+    ensures promise { CheckPromise (map string_bytes words.now) (S.tells shelf.old) (S.faults shelf.old) (S.faults shelf.new)
+        (Says (E.taken err.old) (E.taken err.new) (E.faults err.old) (E.faults err.new)) result.0 }
     ensures files { SameFiles (S.tells shelf.old) (S.tells shelf.new) }
 {
     let mut syms = ProgramSyms::new(alloc);

@@ -1,5 +1,5 @@
 //! The command `opt`.
-ghost use Rattle.std.specs.Prelude.{◌≡◌, ◌≢◌, ◌↔◌, ◌≤◌, ◌^◌, ℕ, List, [], IfOk, IfSome, IsSome, Some, Err, map, string_bytes};
+ghost use Rattle.std.specs.Prelude.{◌≡◌, ◌≢◌, ◌↔◌, ◌<◌, ◌≤◌, ◌^◌, ℕ, List, [], IfOk, IfSome, IsSome, Some, Err, map, string_bytes};
 ghost use Rattle.naim_loader.specs.Paged.{IsGood};
 ghost use Rattle.outside.specs.Faults.{NoneFalls};
 ghost use Rattle.outside.specs.Told.{SameFiles};
@@ -25,22 +25,25 @@ use profile::Profile;
 use std::alloc::Global;
 use sym_tables::ProgramSyms;
 
-/// Prints the IL of the program that modules make: `opt FILE...`, with one to 64 files, `--profile FILE` for the counts
-/// of its routines and calls, which are all 1 where no profile is named, `--limit N` for the bytes of routines that may lie
-/// in memory at one time beside those that are worked at, and `--stats` for the report.
+/// Prints the IL of the program that is planned of the program that modules make: `opt FILE...`, with one to 64 files, `--profile
+/// FILE` for the counts of its routines and calls, which are all 1 where no profile is named, `--passes N` for the passes of the
+/// plan, `--limit N` for the bytes of routines that may lie in memory at one time beside those that are worked at, and `--stats`
+/// for the report. In each pass all routines are simplified, and those that `main` doesn't reach go.
 ///
-/// At status 0 the text of the lowered program was put out: its head in one piece, each routine in one, and its last
-/// line. That program is valid, and prints, traps and ends as the linked modules do, for every input and every number
-/// of turns. Otherwise one line says on `err` why: 2 `hlo: usage`, 3 `hlo: FILE:LINE: KIND`, `hlo: FILE: TooLong`,
-/// `hlo: NAME: TooLarge` or `hlo: link: ..`, 4 `hlo: profile: line N` (0 where it has more than 16 MiB), 5 `hlo: cannot read
-/// FILE`, 6 `hlo: cannot write`, 7 `hlo: repository failed`, 8 `hlo: repository damaged at P: kept H found H` or
-/// `hlo: repository unreadable at P`, 9 `hlo: limit too small: routine PID needs N, limit N`, 10 `hlo: out of memory`.
-/// Any first word but `opt` is 2. A failed write on `err` changes no status. The disk is the scratch disk, on which routines
-/// lie for which there is no room; it comes back, and what is said of the text is said over a disk that is honest and
-/// reaches 131,072 times the limit.
+/// At status 0 the text of the planned program was put out: its head in one piece, each routine in one, and its last line.
+/// It is the same for every limit. That program is valid, prints, traps and ends as the linked modules do, for every input and
+/// every number of turns, and costs no more than the lowered one; the report has both costs. Otherwise one line says on `err`
+/// why: 2 `hlo: usage`, 3 `hlo: FILE:LINE: KIND`, `hlo: FILE: TooLong`, `hlo: NAME: TooLarge` or `hlo: link: ..`, 4 `hlo:
+/// profile: line N` (0 where it has more than 16 MiB), 5 `hlo: cannot read FILE`, 6 `hlo: cannot write`, 7 `hlo: repository
+/// failed`, 8 `hlo: repository damaged at P: kept H found H`, `hlo: repository unreadable at P` or `hlo: repository unfit:
+/// routine PID`, 9 `hlo: limit too small: routine PID needs N, limit N`, of a routine of the files or of the plan, 10 `hlo: out of
+/// memory`. Any first word but `opt` is 2. A failed write on `err` changes no status. The disk is the scratch disk, on which
+/// routines lie for which there is no room; it comes back, and what is said of the text and of the planned program's cost is
+/// said over a disk that is honest and reaches 131,072 times the limit.
 ///
-/// It takes time linear in the files and the text, with the logarithm of the names for each line that names one, and
-/// memory for one file's tokens and trees at a time, beside the names, the limit, and one routine that is worked at.
+/// It takes time linear in the files and the text, with the logarithm of the names for each line that names one, and for each
+/// pass time in proportion to the routines, three times, beside what bringing them back and making room takes; and memory for one
+/// file's tokens and trees at a time, beside the names, the limit, one routine that is worked at, and the calls.
 pub fn opt_command<S: Shelf, O: Sink, E: Sink, D: Disk + Drop + Send, G: Gate + Sync>(
     alloc: Global,
     words: &[String],
@@ -51,7 +54,9 @@ pub fn opt_command<S: Shelf, O: Sink, E: Sink, D: Disk + Drop + Send, G: Gate + 
     _gate: &G,
 ) -> OptAnswer<D>
     // What each status says, of the words, the files, the text and the line.
-    ensures promise { OptPromise (map string_bytes words.now) (S.tells shelf.old) (S.faults shelf.old) (S.faults shelf.new) (O.taken out.old) (O.taken out.new) (O.faults out.old) (O.faults out.new) (λ limit. IsGood D.reach D.honest limit disk) (D.faults disk) (D.faults result.disk) (Says (E.taken err.old) (E.taken err.new) (E.faults err.old) (E.faults err.new)) result.status.0 result.report }
+    ensures promise { OptPromise (map string_bytes words.now) (S.tells shelf.old) (S.faults shelf.old) (S.faults shelf.new) (O.taken out.old) (O.taken out.new)
+        (O.faults out.old) (O.faults out.new) (λ limit. IsGood D.reach D.honest limit disk) (D.faults disk) (D.faults result.disk)
+        (Says (E.taken err.old) (E.taken err.new) (E.faults err.old) (E.faults err.new)) result.status.0 result.report }
 
     // Another first word is refused.
     ensures other { asked_command (map string_bytes words.now) ≢ command.Opt → result.status.0 ≡ 2 }
@@ -60,7 +65,8 @@ pub fn opt_command<S: Shelf, O: Sink, E: Sink, D: Disk + Drop + Send, G: Gate + 
     // isn't asked where the words ask for nothing.
     ensures report { IsSome result.report ↔ (result.status.0 ≡ 0) }
     ensures count { D.faults disk ≤ D.faults result.disk }
-    ensures good { (s : OptSettings) → AsksOpt (map string_bytes words.now) s → IsGood D.reach D.honest s.limit disk → IsGood D.reach D.honest s.limit result.disk }
+    ensures good { (s : OptSettings) → AsksOpt (map string_bytes words.now) s → IsGood D.reach D.honest s.limit disk
+        → IsGood D.reach D.honest s.limit result.disk }
     ensures unasked { result.status.0 ≡ 2 → result.disk ≡ disk }
     ensures files { SameFiles (S.tells shelf.old) (S.tells shelf.new) }
 {
@@ -84,7 +90,11 @@ fn serve_settings<S: Shelf, O: Sink, E: Sink, D: Disk + Drop>(
     disk: D,
 ) -> OptAnswer<D>
     requires limit { settings.now.limit ≤ 2 ^ 30 }
-    ensures promise { (words : List (List ℕ)) → AsksOpt words settings.now → OptPromise words (S.tells shelf.old) (S.faults shelf.old) (S.faults shelf.new) (O.taken out.old) (O.taken out.new) (O.faults out.old) (O.faults out.new) (λ limit. IsGood D.reach D.honest limit disk) (D.faults disk) (D.faults result.disk) (Says (E.taken err.old) (E.taken err.new) (E.faults err.old) (E.faults err.new)) result.status.0 result.report }
+    requires passes { 0 < settings.now.passes }
+    ensures promise { (words : List (List ℕ)) → AsksOpt words settings.now
+        → OptPromise words (S.tells shelf.old) (S.faults shelf.old) (S.faults shelf.new) (O.taken out.old) (O.taken out.new) (O.faults out.old)
+        (O.faults out.new) (λ limit. IsGood D.reach D.honest limit disk) (D.faults disk) (D.faults result.disk)
+        (Says (E.taken err.old) (E.taken err.new) (E.faults err.old) (E.faults err.new)) result.status.0 result.report }
     ensures served { result.status.0 ≢ 2 }
     ensures report { IsSome result.report ↔ (result.status.0 ≡ 0) }
     ensures count { D.faults disk ≤ D.faults result.disk }
@@ -108,7 +118,7 @@ fn serve_settings<S: Shelf, O: Sink, E: Sink, D: Disk + Drop>(
     }
 }
 
-/// Puts out the text of the program of the files through the pools of this loader, which has taken none yet, and tells how it
+/// Puts out the text of the planned program of the files through the pools of this loader, which has taken none yet, and tells how it
 /// ended.
 fn serve_pools<S: Shelf, O: Sink, E: Sink, D: Disk + Drop>(
     alloc: Global,
@@ -120,10 +130,14 @@ fn serve_pools<S: Shelf, O: Sink, E: Sink, D: Disk + Drop>(
     err: &mut E,
 ) -> OptAnswer<D>
     requires limit { paging.loader.core.limit ≡ settings.now.limit }
+    requires passes { 0 < settings.now.passes }
     requires ready { IsReady paging.loader paging.pids.items paging.cost }
     requires none { inserted paging.loader ≡ [] }
-    ensures promise { (words : List (List ℕ)) (shelf_before : List ℕ → ℕ) → AsksOpt words settings.now → HasCounts (S.tells shelf.old) settings.now.profile (counts_of profile.now) → NoneFalls shelf_before (S.faults shelf.old)
-        → OptPromise words (S.tells shelf.old) shelf_before (S.faults shelf.new) (O.taken out.old) (O.taken out.new) (O.faults out.old) (O.faults out.new) (λ limit. IsGood D.reach D.honest limit paging.loader.first) (D.faults paging.loader.disk) (D.faults result.disk) (Says (E.taken err.old) (E.taken err.new) (E.faults err.old) (E.faults err.new)) result.status.0 result.report }
+    ensures promise { (words : List (List ℕ)) (shelf_before : List ℕ → ℕ) → AsksOpt words settings.now
+        → HasCounts (S.tells shelf.old) settings.now.profile (counts_of profile.now) → NoneFalls shelf_before (S.faults shelf.old)
+        → OptPromise words (S.tells shelf.old) shelf_before (S.faults shelf.new) (O.taken out.old) (O.taken out.new) (O.faults out.old) (O.faults out.new)
+        (λ limit. IsGood D.reach D.honest limit paging.loader.first) (D.faults paging.loader.disk) (D.faults result.disk)
+        (Says (E.taken err.old) (E.taken err.new) (E.faults err.old) (E.faults err.new)) result.status.0 result.report }
     ensures served { result.status.0 ≢ 2 }
     ensures report { IsSome result.report ↔ (result.status.0 ≡ 0) }
     ensures count { D.faults paging.loader.disk ≤ D.faults result.disk }

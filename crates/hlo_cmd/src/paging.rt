@@ -13,12 +13,14 @@ use outside::Disk;
 use plan_driver::{PlanLoader, add_routine};
 use std::alloc::Global;
 
-/// A loader that takes the routines of a program as they are lowered, with their PIDs and their cost so far.
+/// A loader that takes the routines of a program as they are lowered, with their PIDs and their cost so far, and the cost of
+/// the program that is planned of them.
 pub(crate) struct Paging<D: Disk + Drop> {
     alloc: Global,
     pub(crate) loader: PlanLoader<D>,
     pub(crate) pids: Vec<u32>,
     pub(crate) cost: u64,
+    pub(crate) planned: u64,
 }
 
 impl<D: Disk + Drop> Paging<D> {
@@ -34,14 +36,15 @@ impl<D: Disk + Drop> Paging<D> {
             loader,
             pids: Vec::new(alloc),
             cost: 0,
+            planned: 0,
         }
     }
 
-    /// Ends the loader: the disk, and the report of what it did and of the program's cost.
+    /// Ends the loader: the disk, and the report of what it did and of the programs' costs.
     pub(crate) fn close(self) -> (D, Report)
         requires home { self.loader.home ≡ true }
         ensures disk { result.0 ≡ self.loader.disk }
-        ensures report { result.1 ≡ report_of self.loader.counters self.cost }
+        ensures report { result.1 ≡ report_of self.loader.counters self.cost self.planned }
         ensures within { result.1.under_peak ≤ self.loader.core.limit }
         ensures good { IsTrusted D.reach D.honest self.loader → IsGood D.reach D.honest self.loader.core.limit result.0 }
     {
@@ -50,8 +53,9 @@ impl<D: Disk + Drop> Paging<D> {
             loader,
             pids: _,
             cost,
+            planned,
         } = self;
-        let report = Report::of(loader.counters(), cost);
+        let report = Report::of(loader.counters(), cost, planned);
         let (disk, _) = loader.close();
         (disk, report)
     }

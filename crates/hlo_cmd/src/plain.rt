@@ -57,12 +57,24 @@ pub fn plain_command<S: Shelf, I: Source, O: Sink, E: Sink>(
     err: &mut E,
 ) -> Status
     // Each command that the first word names keeps its promise; other words are refused.
-    ensures check { asked_command (map string_bytes words.now) ≡ command.Check → CheckPromise (map string_bytes words.now) (S.tells shelf.old) (S.faults shelf.old) (S.faults shelf.new) (Says (E.taken err.old) (E.taken err.new) (E.faults err.old) (E.faults err.new)) result.0 }
-    ensures run { asked_command (map string_bytes words.now) ≡ command.Run → RunPromise (map string_bytes words.now) (S.tells shelf.old) (S.faults shelf.old) (S.faults shelf.new) (I.left input.old) (I.left input.new) (I.faults input.old) (I.faults input.new) (O.taken out.old) (O.taken out.new) (O.faults out.old) (O.faults out.new) (Says (E.taken err.old) (E.taken err.new) (E.faults err.old) (E.faults err.new)) result.0 }
-    ensures runil { asked_command (map string_bytes words.now) ≡ command.RunIl → RunIlPromise (map string_bytes words.now) (S.tells shelf.old) (S.faults shelf.old) (S.faults shelf.new) (I.left input.old) (I.left input.new) (I.faults input.old) (I.faults input.new) (O.taken out.old) (O.taken out.new) (O.faults out.old) (O.faults out.new) (Says (E.taken err.old) (E.taken err.new) (E.faults err.old) (E.faults err.new)) result.0 }
-    ensures train { asked_command (map string_bytes words.now) ≡ command.Train → TrainPromise (map string_bytes words.now) (S.tells shelf.old) (S.faults shelf.old) (S.faults shelf.new) (I.left input.old) (I.left input.new) (I.faults input.old) (I.faults input.new) (O.taken out.old) (O.taken out.new) (O.faults out.old) (O.faults out.new) (Says (E.taken err.old) (E.taken err.new) (E.faults err.old) (E.faults err.new)) result.0 }
+    ensures check { asked_command (map string_bytes words.now) ≡ command.Check
+        → CheckPromise (map string_bytes words.now) (S.tells shelf.old) (S.faults shelf.old) (S.faults shelf.new)
+        (Says (E.taken err.old) (E.taken err.new) (E.faults err.old) (E.faults err.new)) result.0 }
+    ensures run { asked_command (map string_bytes words.now) ≡ command.Run
+        → RunPromise (map string_bytes words.now) (S.tells shelf.old) (S.faults shelf.old) (S.faults shelf.new) (I.left input.old) (I.left input.new)
+        (I.faults input.old) (I.faults input.new) (O.taken out.old) (O.taken out.new) (O.faults out.old) (O.faults out.new)
+        (Says (E.taken err.old) (E.taken err.new) (E.faults err.old) (E.faults err.new)) result.0 }
+    ensures runil { asked_command (map string_bytes words.now) ≡ command.RunIl
+        → RunIlPromise (map string_bytes words.now) (S.tells shelf.old) (S.faults shelf.old) (S.faults shelf.new) (I.left input.old) (I.left input.new)
+        (I.faults input.old) (I.faults input.new) (O.taken out.old) (O.taken out.new) (O.faults out.old) (O.faults out.new)
+        (Says (E.taken err.old) (E.taken err.new) (E.faults err.old) (E.faults err.new)) result.0 }
+    ensures train { asked_command (map string_bytes words.now) ≡ command.Train
+        → TrainPromise (map string_bytes words.now) (S.tells shelf.old) (S.faults shelf.old) (S.faults shelf.new) (I.left input.old) (I.left input.new)
+        (I.faults input.old) (I.faults input.new) (O.taken out.old) (O.taken out.new) (O.faults out.old) (O.faults out.new)
+        (Says (E.taken err.old) (E.taken err.new) (E.faults err.old) (E.faults err.new)) result.0 }
     ensures other { ServesNone (asked_command (map string_bytes words.now)) → result.0 ≡ 2 }
-    ensures line { ServesNone (asked_command (map string_bytes words.now)) → Says (E.taken err.old) (E.taken err.new) (E.faults err.old) (E.faults err.new) usage_line }
+    ensures line { ServesNone (asked_command (map string_bytes words.now))
+        → Says (E.taken err.old) (E.taken err.new) (E.faults err.old) (E.faults err.new) usage_line }
 
     // What stays the same: only `run`, `runil` and `train` print and ask the input.
     ensures out { (Runs (asked_command (map string_bytes words.now)) → ⊥) → out.new ≡ out.old }

@@ -31,9 +31,9 @@ pub struct Report {
 }
 
 impl Report {
-    /// The report of a run with these counters, that printed the lowered program, which has this cost.
-    pub(crate) fn of(counters: Counters, cost: u64) -> Report
-        ensures { result ≡ report_of counters cost }
+    /// The report of a run with these counters, where the lowered program and the printed one have these costs.
+    pub(crate) fn of(counters: Counters, before: u64, after: u64) -> Report
+        ensures { result ≡ report_of counters before after }
     {
         Report {
             charged_peak: counters.charged_peak,
@@ -41,8 +41,8 @@ impl Report {
             compactions: counters.compactions,
             offloads: counters.offloads,
             reloads: counters.reloads,
-            cost_before: cost,
-            cost_after: cost,
+            cost_before: before,
+            cost_after: after,
         }
     }
 }

@@ -30,7 +30,9 @@ pub(crate) fn serve_runil<S: Shelf, I: Source, O: Sink, E: Sink>(
     out: &mut O,
     err: &mut E,
 ) -> Status
-    ensures promise { RunIlPromise (map string_bytes words.now) (S.tells shelf.old) (S.faults shelf.old) (S.faults shelf.new) (I.left input.old) (I.left input.new) (I.faults input.old) (I.faults input.new) (O.taken out.old) (O.taken out.new) (O.faults out.old) (O.faults out.new) (Says (E.taken err.old) (E.taken err.new) (E.faults err.old) (E.faults err.new)) result.0 }
+    ensures promise { RunIlPromise (map string_bytes words.now) (S.tells shelf.old) (S.faults shelf.old) (S.faults shelf.new) (I.left input.old)
+        (I.left input.new) (I.faults input.old) (I.faults input.new) (O.taken out.old) (O.taken out.new) (O.faults out.old) (O.faults out.new)
+        (Says (E.taken err.old) (E.taken err.new) (E.faults err.old) (E.faults err.new)) result.0 }
     ensures same { SameFiles (S.tells shelf.old) (S.tells shelf.new) }
 {
     let none = ProgramSyms::new(alloc);
@@ -53,7 +55,9 @@ fn run_il<'a, S: Shelf, I: Source, O: Sink>(
     out: &mut O,
 ) -> Result<Ending, Refusal<'a>>
     ensures ok { IfOk result (RunsToEnd (S.tells shelf.old settings.now.file) settings.now.turns (I.left input.old) (O.taken out.old) (O.taken out.new)) }
-    ensures err { IfErr result (λ r. IsRunIlCause r settings.now.file (S.tells shelf.old settings.now.file) settings.now.turns (S.faults shelf.old settings.now.file) (S.faults shelf.new settings.now.file) (I.left input.old) (I.left input.new) (I.faults input.old) (I.faults input.new) (O.taken out.old) (O.taken out.new) (O.faults out.old) (O.faults out.new)) }
+    ensures err { IfErr result (λ r. IsRunIlCause r settings.now.file (S.tells shelf.old settings.now.file) settings.now.turns
+        (S.faults shelf.old settings.now.file) (S.faults shelf.new settings.now.file) (I.left input.old) (I.left input.new) (I.faults input.old)
+        (I.faults input.new) (O.taken out.old) (O.taken out.new) (O.faults out.old) (O.faults out.new)) }
     ensures same { SameFiles (S.tells shelf.old) (S.tells shelf.new) }
 {
     let program = read_program(alloc, shelf, settings.file.as_str())?;

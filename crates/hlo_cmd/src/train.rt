@@ -26,7 +26,9 @@ pub(crate) fn serve_train<S: Shelf, I: Source, O: Sink, E: Sink>(
     out: &mut O,
     err: &mut E,
 ) -> Status
-    ensures promise { TrainPromise (map string_bytes words.now) (S.tells shelf.old) (S.faults shelf.old) (S.faults shelf.new) (I.left input.old) (I.left input.new) (I.faults input.old) (I.faults input.new) (O.taken out.old) (O.taken out.new) (O.faults out.old) (O.faults out.new) (Says (E.taken err.old) (E.taken err.new) (E.faults err.old) (E.faults err.new)) result.0 }
+    ensures promise { TrainPromise (map string_bytes words.now) (S.tells shelf.old) (S.faults shelf.old) (S.faults shelf.new) (I.left input.old)
+        (I.left input.new) (I.faults input.old) (I.faults input.new) (O.taken out.old) (O.taken out.new) (O.faults out.old) (O.faults out.new)
+        (Says (E.taken err.old) (E.taken err.new) (E.faults err.old) (E.faults err.new)) result.0 }
     ensures same { SameFiles (S.tells shelf.old) (S.tells shelf.new) }
 {
     let mut syms = ProgramSyms::new(alloc);

@@ -61,7 +61,8 @@ pub(crate) fn put_profile<O: Sink>(
 ) -> Result<(), PrintFault>
     requires valid { IsProgram program.now }
     requires shape { HasShape program.now counts.now }
-    ensures put { PutsProfile (set_by_all (counted_lines program.now.shapes program.now.routines counts.now.entries counts.now.sites) []) (O.taken out.old) (O.taken out.new) result }
+    ensures put { PutsProfile (set_by_all (counted_lines program.now.shapes program.now.routines counts.now.entries counts.now.sites) []) (O.taken out.old)
+        (O.taken out.new) result }
     ensures cause { IfErr result (λ f. IsPrintCause f (O.faults out.old) (O.faults out.new)) }
 {
     let Ok(profile) = profile_of(alloc, program, counts) else {

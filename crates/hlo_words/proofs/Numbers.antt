@@ -1,5 +1,6 @@
 -- Decimal numbers, read and spelled.
-use Rattle.std.proofs.Common.{◌≡◌, ◌≢◌, ℕ, zero, suc, ◌^◌, ◌<◌, ◌≤◌, Bool, true, false, List, [], ◌∷◌, length, get_or, Option, Some, IfSome, Result, Ok, Err, refl, sym, ◌∙◌, ap, subst, arith}
+use Rattle.std.proofs.Common.{◌≡◌, ◌≢◌, ℕ, zero, suc, ◌^◌, ◌<◌, ◌≤◌, Bool, true, false, List, [], ◌∷◌, length, get_or, Option, Some, IfSome, Result, Ok}
+use Rattle.std.proofs.Common.{Err, refl, sym, ◌∙◌, ap, subst, arith}
 use Rattle.std.specs.Prelude.{◌==◌, ◌||◌}
 use Rattle.std.specs.Result.{result_ok}
 use Rattle.std.specs.Fmt.{decimal}
@@ -51,14 +52,16 @@ no_zero (b ∷ []) h some e = refl
 no_zero (b ∷ c ∷ bs) h some e = absurd (eqb-false b 48 (second_false (b == 43) (b == 48) h) e)
 
 -- a number that was read is spelled so, where nothing pads it
-pub read_is_spelled : {E : Type 0} (bs : List ℕ) (r : Result ℕ E) (o : Option ℕ) → o ≡ result_ok r → ParsesUnsigned 64 10 bs r → IfSome o (λ n. is_padded_text bs ≡ false → bs ≡ decimal n)
+pub read_is_spelled : {E : Type 0} (bs : List ℕ) (r : Result ℕ E) (o : Option ℕ) → o ≡ result_ok r → ParsesUnsigned 64 10 bs r
+    → IfSome o (λ n. is_padded_text bs ≡ false → bs ≡ decimal n)
 read_is_spelled {E} bs (Err e) o is h = subst (λ q. IfSome q (λ n. is_padded_text bs ≡ false → bs ≡ decimal n)) (sym is) tt
 read_is_spelled {E} bs (Ok x) o is h = subst (λ q. IfSome q (λ n. is_padded_text bs ≡ false → bs ≡ decimal n)) (sym is) (λ plain.
     let p = parse_plain own {E = E} 64 bs (Ok x) h (no_plus bs plain) in
     sym (ap decimal p.1 ∙ decimal-digits_value own bs p.0.0 p.0.1 (no_zero bs plain p.0.1) (omega (arith, p.0.2))))
 
 -- a number that is spelled so is read
-pub spelled_is_read : {E : Type 0} (bs : List ℕ) (r : Result ℕ E) (o : Option ℕ) → o ≡ result_ok r → ParsesUnsigned 64 10 bs r → (n : ℕ) → n < 2 ^ 64 → bs ≡ decimal n → o ≡ Some n
+pub spelled_is_read : {E : Type 0} (bs : List ℕ) (r : Result ℕ E) (o : Option ℕ) → o ≡ result_ok r → ParsesUnsigned 64 10 bs r → (n : ℕ) → n < 2 ^ 64
+    → bs ≡ decimal n → o ≡ Some n
 spelled_is_read bs r o is h n lt e = is ∙ ap result_ok (parse-decimal 64 n bs r lt (omega arith) e h)
 
 pub same_number : (o : Option ℕ) (m n : ℕ) → o ≡ Some m → o ≡ Some n → m ≡ n

@@ -1,12 +1,12 @@
 -- What the words of the commands say, at examples.
-use Rattle.std.proofs.Common.{◌≡◌, refl, sym, arith, [], ◌∷◌, codes, Some, None, true, false}
+use Rattle.std.proofs.Common.{◌≡◌, ℕ, ◌+◌, refl, sym, ◌∙◌, ap, arith, [], ◌∷◌, length, codes, Some, None, true, false}
 use Rattle.clap.specs.Faults.{fault_of}
 use Rattle.clap.specs.Simple.{matches_of}
 use Rattle.std.proofs.lemmas.Fmt.{decimal_digit}
 use Rattle.clap.proofs.OnLiterals.{clap_on_literals}
 use Rattle.clap.specs.declared.error.kind.ErrorKind.TheVariants.{ArgumentConflict, DisplayHelp, UnknownArgument}
 use Rattle.hlo_words.specs.Lines.{files_app, opt_app, turns_app}
-use Rattle.hlo_words.specs.Settings.{IsOptSettings, IsRunSettings, IsRunIlSettings}
+use Rattle.hlo_words.specs.Settings.{IsNumberIn, IsOptSettings, IsRunSettings, IsRunIlSettings}
 
 -- files in their order, one of them behind `--`, and the turns between them
 
@@ -24,12 +24,13 @@ mixed_says = record {
 
 -- a profile and the flag between files, and no limit
 profiled_says : IsOptSettings (codes "opt" ∷ codes "a.c" ∷ codes "--profile" ∷ codes "p.txt" ∷ codes "--stats" ∷ codes "b.c" ∷ [])
-    (record { limit = 67108864; profile = Some (codes "p.txt"); stats = true; files = codes "a.c" ∷ codes "b.c" ∷ [] })
+    (record { limit = 67108864; passes = 4; profile = Some (codes "p.txt"); stats = true; files = codes "a.c" ∷ codes "b.c" ∷ [] })
 unfolding clap_on_literals
 profiled_says = record {
   rows = matches_of opt_app (codes "opt" ∷ codes "a.c" ∷ codes "--profile" ∷ codes "p.txt" ∷ codes "--stats" ∷ codes "b.c" ∷ []);
   read = record { taken = refl; found = refl };
   limit = refl;
+  passes = refl;
   profile = refl;
   stats = refl;
   files = record { given = refl; some = omega arith; most = omega arith };
@@ -37,16 +38,53 @@ profiled_says = record {
 
 -- a limit alone
 limited_says : IsOptSettings (codes "opt" ∷ codes "--limit=9" ∷ codes "a.c" ∷ [])
-    (record { limit = 9; profile = None; stats = false; files = codes "a.c" ∷ [] })
+    (record { limit = 9; passes = 4; profile = None; stats = false; files = codes "a.c" ∷ [] })
 unfolding clap_on_literals
 limited_says = record {
   rows = matches_of opt_app (codes "opt" ∷ codes "--limit=9" ∷ codes "a.c" ∷ []);
   read = record { taken = refl; found = refl };
   limit = record { spelled = sym (decimal_digit 9 (omega arith)); least = omega arith; most = omega arith };
+  passes = refl;
   profile = refl;
   stats = refl;
   files = record { given = refl; some = omega arith; most = omega arith };
 }
+
+-- a number of passes alone
+passes_say : IsOptSettings (codes "opt" ∷ codes "a.c" ∷ codes "--passes" ∷ codes "8" ∷ [])
+    (record { limit = 67108864; passes = 8; profile = None; stats = false; files = codes "a.c" ∷ [] })
+unfolding clap_on_literals
+passes_say = record {
+  rows = matches_of opt_app (codes "opt" ∷ codes "a.c" ∷ codes "--passes" ∷ codes "8" ∷ []);
+  read = record { taken = refl; found = refl };
+  limit = refl;
+  passes = record { spelled = sym (decimal_digit 8 (omega arith)); least = omega arith; most = omega arith };
+  profile = refl;
+  stats = refl;
+  files = record { given = refl; some = omega arith; most = omega arith };
+}
+
+-- passes outside their range, and with a leading zero
+nine_refused : (n : ℕ) → IsNumberIn 1 8 (codes "9") n → ⊥
+nine_refused n h =
+    let most = h.most in
+    let same : 57 ∷ [] ≡ (48 + n) ∷ [] = h.spelled ∙ decimal_digit n (omega arith) in
+    let digit : 57 ≡ 48 + n = cc same in
+    absurd (omega (arith, digit))
+
+none_refused : (n : ℕ) → IsNumberIn 1 8 (codes "0") n → ⊥
+none_refused n h =
+    let least = h.least in
+    let most = h.most in
+    let same : 48 ∷ [] ≡ (48 + n) ∷ [] = h.spelled ∙ decimal_digit n (omega arith) in
+    let digit : 48 ≡ 48 + n = cc same in
+    absurd (omega (arith, digit))
+
+padded_refused : (n : ℕ) → IsNumberIn 1 8 (codes "04") n → ⊥
+padded_refused n h =
+    let most = h.most in
+    let long : 2 ≡ 1 = ap length (h.spelled ∙ decimal_digit n (omega arith)) in
+    absurd (omega (arith, long))
 
 -- no turns are given
 plain_says : IsRunIlSettings (codes "runil" ∷ codes "w.il" ∷ []) (record { turns = 1000000000; file = codes "w.il" })
@@ -62,6 +100,10 @@ plain_says = record {
 twice_refused : fault_of (turns_app (codes "run")) (codes "run" ∷ codes "--turns=1" ∷ codes "--turns=1" ∷ codes "a.c" ∷ []) ≡ ArgumentConflict ∷ []
 unfolding clap_on_literals
 twice_refused = refl
+
+passes_twice : fault_of opt_app (codes "opt" ∷ codes "--passes=2" ∷ codes "a.c" ∷ codes "--passes=3" ∷ []) ≡ ArgumentConflict ∷ []
+unfolding clap_on_literals
+passes_twice = refl
 
 other_refused : fault_of (files_app (codes "check")) (codes "check" ∷ codes "--turns" ∷ codes "1" ∷ codes "a.c" ∷ []) ≡ UnknownArgument ∷ []
 unfolding clap_on_literals

@@ -34,6 +34,10 @@ HasTurns rows n = IsValue 1000000000 0 1000000000000 (first_of (codes "turns") r
 abbrev pub HasLimit : List Row → ℕ → Type 0
 HasLimit rows n = IsValue 67108864 1 1073741824 (first_of (codes "limit") rows) n
 
+-- the passes: 1 to 8, and 4 where they aren't given
+abbrev pub HasPasses : List Row → ℕ → Type 0
+HasPasses rows n = IsValue 4 1 8 (first_of (codes "passes") rows) n
+
 -- a flag was given: clap keeps `true` for it then
 abbrev pub is_set : Option Text → Bool
 is_set None = false
@@ -50,6 +54,7 @@ pub record IsOptSettings (words : List Text) (s : OptSettings) : Type 0 where
   pub rows : List Row
   pub read : HasRead opt_app words rows
   pub limit : HasLimit rows s.limit
+  pub passes : HasPasses rows s.passes
   pub profile : first_of (codes "profile") rows ≡ s.profile
   pub stats : is_set (first_of (codes "stats") rows) ≡ s.stats
   pub files : AreFiles rows s.files

@@ -4,7 +4,7 @@ ghost use Rattle.clap.specs.Simple.{app_of};
 ghost use Rattle.clap.specs.Matches.{found_of};
 ghost use Rattle.clap.specs.Values.{kind_of};
 ghost use Rattle.clap.specs.Walk.{rows_of};
-ghost use Rattle.hlo_words.specs.Lines.{HasRead, IsRefused, files_app, numbers_app, opt_app, turns_app};
+ghost use Rattle.hlo_words.specs.Lines.{HasRead, IsRefused, files_app, numbers_app, opt_app, options_app, turns_app};
 
 use crate::settings::WordsFault;
 use clap::error::ErrorKind;
@@ -63,28 +63,38 @@ fn files_line<'a>(alloc: Global, name: &'a str) -> Result<Command<'a>, AllocErro
     Command::new(alloc, name).arg(files)
 }
 
-/// `--limit N --profile FILE`
-fn opt_options<'a>(alloc: Global) -> Result<Command<'a>, AllocError>
+/// `--limit N --passes N`
+fn opt_numbers<'a>(alloc: Global) -> Result<Command<'a>, AllocError>
     ensures { IfOk result (λ c. app_of c ≡ numbers_app) }
 {
     let limit = Arg::new(alloc, "limit")
         .long("limit")
         .action(ArgAction::Set);
+    let passes = Arg::new(alloc, "passes")
+        .long("passes")
+        .action(ArgAction::Set);
+    Command::new(alloc, "opt").arg(limit)?.arg(passes)
+}
+
+/// `--limit N --passes N --profile FILE --stats`
+fn opt_options<'a>(alloc: Global) -> Result<Command<'a>, AllocError>
+    ensures { IfOk result (λ c. app_of c ≡ options_app) }
+{
     let profile = Arg::new(alloc, "profile")
         .long("profile")
         .action(ArgAction::Set);
-    Command::new(alloc, "opt").arg(limit)?.arg(profile)
-}
-
-/// `--limit N --profile FILE --stats FILE...`
-fn opt_line<'a>(alloc: Global) -> Result<Command<'a>, AllocError>
-    ensures { IfOk result (λ c. app_of c ≡ opt_app) }
-{
     let stats = Arg::new(alloc, "stats")
         .long("stats")
         .action(ArgAction::SetTrue);
+    opt_numbers(alloc)?.arg(profile)?.arg(stats)
+}
+
+/// `--limit N --passes N --profile FILE --stats FILE...`
+fn opt_line<'a>(alloc: Global) -> Result<Command<'a>, AllocError>
+    ensures { IfOk result (λ c. app_of c ≡ opt_app) }
+{
     let files = Arg::new(alloc, "files").action(ArgAction::Append);
-    opt_options(alloc)?.arg(stats)?.arg(files)
+    opt_options(alloc)?.arg(files)
 }
 
 /// `--turns N FILE...`

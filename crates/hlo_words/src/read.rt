@@ -2,7 +2,8 @@
 ghost use Rattle.std.specs.Prelude.{◌≡◌, ℕ, List, [], ◌∷◌, IfOk, IfSome, IfNone, codes, map, string_bytes};
 ghost use Rattle.clap.specs.Matches.{found_of};
 ghost use Rattle.clap.specs.Walk.{all_of, first_of, rows_of};
-ghost use Rattle.hlo_words.specs.Settings.{AreFiles, HasLimit, HasTurns, is_set, IsCheckSettings, IsOptSettings, IsRunIlSettings, IsRunSettings, IsTrainSettings, AreRunSettings};
+ghost use Rattle.hlo_words.specs.Settings.{AreFiles, HasLimit, HasPasses, HasTurns, is_set, IsCheckSettings, IsOptSettings, IsRunIlSettings};
+ghost use Rattle.hlo_words.specs.Settings.{IsRunSettings, IsTrainSettings, AreRunSettings};
 ghost use Rattle.hlo_words.specs.declared.settings.CheckSettings.{CheckSettings};
 ghost use Rattle.hlo_words.specs.declared.settings.OptSettings.{OptSettings};
 ghost use Rattle.hlo_words.specs.declared.settings.RunIlSettings.{RunIlSettings};
@@ -31,8 +32,14 @@ const DEFAULT_LIMIT: u64 = 1 << 26;
 /// The greatest limit in bytes, 1 GiB.
 const MAX_LIMIT: u64 = 1 << 30;
 
-/// The settings of `opt --limit N --profile FILE --stats FILE...`. The limit is from 1 to 1073741824 bytes, and
-/// 67108864 where it isn't given.
+/// How many passes the plan makes where the words don't say.
+const DEFAULT_PASSES: u32 = 4;
+
+/// The greatest number of passes.
+const MAX_PASSES: u64 = 8;
+
+/// The settings of `opt --limit N --passes N --profile FILE --stats FILE...`. The limit is from 1 to 1073741824
+/// bytes, and 67108864 where it isn't given; the passes are from 1 to 8, and 4 where they aren't given.
 ///
 /// The words are all those of the program, the command's name first; that one isn't looked at. They are read
 /// as clap reads a command with long options whose files stand last: a word behind `--` is a file, an option
@@ -46,11 +53,15 @@ pub fn read_opt(alloc: Global, words: &[String]) -> Result<OptSettings, WordsFau
     let Some(limit) = limit_of(&matches) else {
         return Err(WordsFault::Usage);
     };
+    let Some(passes) = passes_of(&matches) else {
+        return Err(WordsFault::Usage);
+    };
     let profile = profile_of(alloc, &matches)?;
     let stats = has_stats(&matches);
     let files = files_of(alloc, &matches)?;
     Ok(OptSettings {
         limit,
+        passes,
         profile,
         stats,
         files,
@@ -131,6 +142,18 @@ fn limit_of(matches: &ArgMatches<'_>) -> Option<u64>
         Some(text) => number_in(text, 1, MAX_LIMIT),
         None => Some(DEFAULT_LIMIT),
     }
+}
+
+/// The number of passes.
+fn passes_of(matches: &ArgMatches<'_>) -> Option<u32>
+    ensures found { IfSome result (HasPasses (rows_of (found_of matches.now))) }
+    ensures none { IfNone result ((n : ℕ) → HasPasses (rows_of (found_of matches.now)) n → ⊥) }
+{
+    let Some(text) = matches.get_str("passes") else {
+        return Some(DEFAULT_PASSES);
+    };
+    let passes = number_in(text, 1, MAX_PASSES)?;
+    Some(passes as u32)
 }
 
 /// Whether the report is to be told.

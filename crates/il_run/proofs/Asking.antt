@@ -26,7 +26,8 @@ asks_first None ended = tt
 asks_first (Some xs) ended = record { added = []; grew = sym (append-nil xs); gave = tt; all = λ e. tt }
 
 -- a call gave some bytes, or met the end
-pub asks_ok : (E : Type 0) (start old new : Option (List Ask)) (n : ℕ) (ended : Bool) → AsksSo start old false → NotesAsk {E = E} old new (Ok n) → (ended ≡ false → 0 < n) → AsksSo start new ended
+pub asks_ok : (E : Type 0) (start old new : Option (List Ask)) (n : ℕ) (ended : Bool) → AsksSo start old false → NotesAsk {E = E} old new (Ok n)
+    → (ended ≡ false → 0 < n) → AsksSo start new ended
 asks_ok E None old new n ended h note more = tt
 asks_ok E (Some xs) None new n ended h note more = absurd h
 asks_ok E (Some xs) (Some ys) None n ended h note more = absurd note

@@ -13,13 +13,16 @@ use Rattle.il_run.specs.Counts.{Counted, HasShape, IsCounter, IsNumbered, counte
 use Rattle.il_run.specs.Machine.{IsCalled, call_into, routine_in, site_at}
 use Rattle.il_run.proofs.Counting.{counted_more, row_there, shape_counted, site_within}
 
-pub last_one : (p : IlProgram) (m : Machine) (ss : List Suspended) (d : Suspended) → ss ≡ m.stack.items → (c : IsCalled p m) → slice_index_or ss (length ss - 1) d ≡ c.caller
+pub last_one : (p : IlProgram) (m : Machine) (ss : List Suspended) (d : Suspended) → ss ≡ m.stack.items → (c : IsCalled p m)
+    → slice_index_or ss (length ss - 1) d ≡ c.caller
 last_one p m ss d e c =
     let whole : ss ≡ c.others ++ c.caller ∷ [] = e ∙ c.last in
     let count : length ss - 1 ≡ length c.others = omega (arith, ap length whole, length_push c.others c.caller) in
-    ap (λ (n : ℕ). get_or ss n d) count ∙ ap (λ (xs : List Suspended). get_or xs (length c.others) d) whole ∙ get_or_push c.others c.caller d (length c.others) refl
+    ap (λ (n : ℕ). get_or ss n d) count ∙ ap (λ (xs : List Suspended). get_or xs (length c.others) d) whole ∙ get_or_push c.others c.caller d (length c.others)
+    refl
 
-module _ (p : IlProgram) (m : Machine) (valid : IsProgram p) (counter : Counter) (ok : IsCounter p counter) (called : IsCalled p m) (caller : Suspended) (same : caller ≡ called.caller) (row : Numbering) (read : row ≡ slice_index_or counter.numbers.items caller.routine row) where
+module _ (p : IlProgram) (m : Machine) (valid : IsProgram p) (counter : Counter) (ok : IsCounter p counter) (called : IsCalled p m) (caller : Suspended)
+    (same : caller ≡ called.caller) (row : Numbering) (read : row ≡ slice_index_or counter.numbers.items caller.routine row) where
   numbered : IsNumbered (routine_in p called.caller.routine) row
   numbered = ok.each called.caller.routine row called.at.in_program (read ∙ ap (λ (s : Suspended). slice_index_or counter.numbers.items s.routine row) same)
 
@@ -54,11 +57,18 @@ module _ (p : IlProgram) (m : Machine) (valid : IsProgram p) (counter : Counter)
       site_few = omega (arith, site_is, site_within p called.caller.routine called.caller.block called.instr called.at)
 
       pub site_there : (xs : List ℕ) → xs ≡ slice_index_or counter.counts.sites caller.routine xs → site < length xs
-      site_there xs e = omega (arith, site_few, row_there p counter.counts called.caller.routine xs ok.shape called.at.in_program (e ∙ ap (λ (s : Suspended). slice_index_or counter.counts.sites s.routine xs) same))
+      site_there xs e = omega (
+        arith,
+        site_few,
+        row_there p counter.counts called.caller.routine xs ok.shape called.at.in_program
+            (e ∙ ap (λ (s : Suspended). slice_index_or counter.counts.sites s.routine xs) same),
+      )
 
-      pub counted_here : (new : Counts) → m.routine < length p.routines → new ≡ counted counter.counts caller.routine site m.routine → Counted p counter (record counter { counts = new }) (call_into p m called ∷ [])
+      pub counted_here : (new : Counts) → m.routine < length p.routines → new ≡ counted counter.counts caller.routine site m.routine
+          → Counted p counter (record counter { counts = new }) (call_into p m called ∷ [])
       counted_here new lt e =
-          let e1 : new ≡ counted counter.counts called.caller.routine site m.routine = e ∙ ap (λ (s : Suspended). counted counter.counts s.routine site m.routine) same in
+          let e1 : new ≡ counted counter.counts called.caller.routine site m.routine = e ∙ ap
+          (λ (s : Suspended). counted counter.counts s.routine site m.routine) same in
           record {
             counter = record {
               count = ok.count;
@@ -66,5 +76,6 @@ module _ (p : IlProgram) (m : Machine) (valid : IsProgram p) (counter : Counter)
               shape = subst (λ (c : Counts). HasShape p c) (sym e1) (shape_counted p counter.counts called.caller.routine site m.routine ok.shape);
             };
             counts = λ calls h. e1 ∙ ap (λ (c : Counts). counted c called.caller.routine site m.routine) h
-                ∙ counted_more p calls (call_into p m called) called.caller.routine site m.routine valid called.at.in_program lt refl (sym site_is) site_few refl;
+                ∙ counted_more p calls (call_into p m called) called.caller.routine site m.routine valid called.at.in_program lt refl (sym site_is) site_few
+                refl;
           }

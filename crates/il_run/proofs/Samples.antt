@@ -13,7 +13,17 @@ abbrev twice : IlProgram
 twice = record {
   shapes = record { pid = 0; name = codes "main"; shape = shape.Routine 0 true } ∷ record { pid = 2; name = codes "f"; shape = shape.Routine 0 true } ∷ [];
   objects = [];
-  routines = record { pid = 0; params = 0; value = true; regs = 2; entry = 1; arrays = []; blocks = record { instrs = Call (Some 0) 2 1 [] ∷ Call (Some 1) 2 1 [] ∷ []; end = Return (Some 1) } ∷ [] } ∷ record { pid = 2; params = 0; value = true; regs = 1; entry = 1; arrays = []; blocks = record { instrs = []; end = Return (Some 0) } ∷ [] } ∷ [];
+  routines = record {
+    pid = 0;
+    params = 0;
+    value = true;
+    regs = 2;
+    entry = 1;
+    arrays = [];
+    blocks =
+        record { instrs = Call (Some 0) 2 1 [] ∷ Call (Some 1) 2 1 [] ∷ []; end = Return (Some 1) } ∷ [];
+  } ∷
+      record { pid = 2; params = 0; value = true; regs = 1; entry = 1; arrays = []; blocks = record { instrs = []; end = Return (Some 0) } ∷ [] } ∷ [];
 }
 
 both_sites : counts_of twice (calls_made twice [] 2) ≡ record { entries = 0 ∷ 2 ∷ []; sites = (1 ∷ 1 ∷ []) ∷ [] ∷ [] }

@@ -1,5 +1,6 @@
 -- Windows on lists of words, and arrays side by side.
-use Rattle.std.proofs.Common.{◌≡◌, ℕ, zero, suc, ◌+◌, ◌-◌, ◌<◌, ◌≤◌, List, [], ◌∷◌, ◌++◌, length, take, get_or, Bool, true, false, refl, ap, subst, sym, ◌∙◌, arith, ne_eqb, eq-eqb, get_or-set_same, get_or-set_other, inl, inr}
+use Rattle.std.proofs.Common.{◌≡◌, ℕ, zero, suc, ◌+◌, ◌-◌, ◌<◌, ◌≤◌, List, [], ◌∷◌, ◌++◌, length, take, get_or, Bool, true, false, refl, ap, subst, sym}
+use Rattle.std.proofs.Common.{◌∙◌, arith, ne_eqb, eq-eqb, get_or-set_same, get_or-set_other, inl, inr}
 use Rattle.std.specs.Prelude.{nat_eq, nat_lt, if◌then◌else◌, slice_index, slice_set, sum, replicate}
 use Rattle.std.proofs.lemmas.Bool.{cases_eq, cases_lt, cases_order, lt-ltb, le-ltb}
 use Rattle.std.proofs.lemmas.Bool.Decides.{nat_tests}
@@ -32,7 +33,8 @@ put_there f d v x ne = if_no (nat_eq x d) v (f x) (ne_eqb x d ne)
 pub window_set : (xs : List ℕ) (base n d v : ℕ) → d < n → base + n ≤ length xs → window (slice_set xs (base + d) v) base n ≡ put (window xs base n) d v
 window_set xs base n d v lt le = fun_ext (λ x.
     elim (cases_eq x d) [
-      | inl e ↦ window_in (slice_set xs (base + d) v) base n x (omega arith) ∙ ap (λ (y : ℕ). slice_index (slice_set xs (base + d) v) (base + y)) e ∙ get_or-set_same xs (base + d) v 0 (omega arith) ∙ sym (put_here (window xs base n) d v x e)
+      | inl e ↦ window_in (slice_set xs (base + d) v) base n x (omega arith) ∙ ap (λ (y : ℕ). slice_index (slice_set xs (base + d) v) (base + y)) e ∙
+          get_or-set_same xs (base + d) v 0 (omega arith) ∙ sym (put_here (window xs base n) d v x e)
       | inr ne ↦ (elim (cases_lt x n) [
         | inl l ↦ window_in (slice_set xs (base + d) v) base n x l ∙ get_or-set_other xs (base + d) (base + x) v 0 (omega arith) ∙ sym (window_in xs base n x l)
         | inr g ↦ window_out (slice_set xs (base + d) v) base n x g ∙ sym (window_out xs base n x g)
@@ -69,9 +71,14 @@ after_earlier lens a b lt = elim (cases_lt a (length lens)) [
 
 apart : (lens : List ℕ) (a b i j : ℕ) → i < slice_index lens a → j < slice_index lens b → (b ≡ a → ⊥) → start_of lens b + j ≡ start_of lens a + i → ⊥
 apart lens a b i j la lb ne e =
-    elim (cases_order a b) [ inl same ↦ ne (sym same) | inr other ↦ elim other [ inl l ↦ omega (arith, before_later lens a b i la l) | inr g ↦ omega (arith, before_later lens b a j lb g) ] ]
+    elim (cases_order a b) [
+      | inl same ↦ ne (sym same)
+      | inr other ↦ elim other
+          [ inl l ↦ omega (arith, before_later lens a b i la l) | inr g ↦ omega (arith, before_later lens b a j lb g) ]
+    ]
 
-pub element_in : (xs : List ℕ) (base : ℕ) (lens : List ℕ) (a i : ℕ) → i < slice_index lens a → arrays_in xs base lens a i ≡ slice_index xs (base + start_of lens a + i)
+pub element_in : (xs : List ℕ) (base : ℕ) (lens : List ℕ) (a i : ℕ) → i < slice_index lens a
+    → arrays_in xs base lens a i ≡ slice_index xs (base + start_of lens a + i)
 element_in xs base lens a i lt = if_yes (nat_lt i (slice_index lens a)) (slice_index xs (base + start_of lens a + i)) 0 (lt-ltb i (slice_index lens a) lt)
 
 pub element_out : (xs : List ℕ) (base : ℕ) (lens : List ℕ) (a i : ℕ) → slice_index lens a ≤ i → arrays_in xs base lens a i ≡ 0
@@ -85,9 +92,11 @@ module _ (xs : List ℕ) (base : ℕ) (lens : List ℕ) (a i v : ℕ) (lt : i < 
   unfolding after
   same_array j =
       elim (cases_eq j i) [
-        | inl e ↦ element_in after base lens a j (omega arith) ∙ ap (λ (y : ℕ). slice_index after (base + start_of lens a + y)) e ∙ get_or-set_same xs (base + start_of lens a + i) v 0 (omega (arith, before_end lens a i lt)) ∙ sym (put_here (arrays_in xs base lens a) i v j e)
+        | inl e ↦ element_in after base lens a j (omega arith) ∙ ap (λ (y : ℕ). slice_index after (base + start_of lens a + y)) e ∙ get_or-set_same xs
+            (base + start_of lens a + i) v 0 (omega (arith, before_end lens a i lt)) ∙ sym (put_here (arrays_in xs base lens a) i v j e)
         | inr ne ↦ (elim (cases_lt j (slice_index lens a)) [
-          | inl l ↦ element_in after base lens a j l ∙ get_or-set_other xs (base + start_of lens a + i) (base + start_of lens a + j) v 0 (omega arith) ∙ sym (element_in xs base lens a j l)
+          | inl l ↦ element_in after base lens a j l ∙ get_or-set_other xs (base + start_of lens a + i) (base + start_of lens a + j) v 0 (omega arith) ∙ sym
+              (element_in xs base lens a j l)
           | inr g ↦ element_out after base lens a j g ∙ sym (element_out xs base lens a j g)
         ])
             ∙ sym (put_there (arrays_in xs base lens a) i v j ne)
@@ -97,7 +106,8 @@ module _ (xs : List ℕ) (base : ℕ) (lens : List ℕ) (a i v : ℕ) (lt : i < 
   unfolding after
   other_array b ne j =
       elim (cases_lt j (slice_index lens b)) [
-        | inl l ↦ element_in after base lens b j l ∙ get_or-set_other xs (base + start_of lens a + i) (base + start_of lens b + j) v 0 (λ e. apart lens a b i j lt l ne (omega arith)) ∙ sym (element_in xs base lens b j l)
+        | inl l ↦ element_in after base lens b j l ∙ get_or-set_other xs (base + start_of lens a + i) (base + start_of lens b + j) v 0
+            (λ e. apart lens a b i j lt l ne (omega arith)) ∙ sym (element_in xs base lens b j l)
         | inr g ↦ element_out after base lens b j g ∙ sym (element_out xs base lens b j g)
       ]
 
@@ -106,7 +116,8 @@ module _ (xs : List ℕ) (base : ℕ) (lens : List ℕ) (a i v : ℕ) (lt : i < 
   unfolding after
   arrays_set = fun_ext (λ b.
       elim (cases_eq b a) [
-        | inl e ↦ ap (λ (y : ℕ). arrays_in after base lens y) e ∙ fun_ext same_array ∙ sym (if_yes (nat_eq b a) (put (arrays_in xs base lens a) i v) (arrays_in xs base lens b) (eq-eqb b a e))
+        | inl e ↦ ap (λ (y : ℕ). arrays_in after base lens y) e ∙ fun_ext same_array ∙ sym
+            (if_yes (nat_eq b a) (put (arrays_in xs base lens a) i v) (arrays_in xs base lens b) (eq-eqb b a e))
         | inr ne ↦ fun_ext (other_array b ne) ∙ sym (if_no (nat_eq b a) (put (arrays_in xs base lens a) i v) (arrays_in xs base lens b) (ne_eqb b a ne))
       ])
 
@@ -121,14 +132,19 @@ among_above : (first n x : ℕ) → first + n ≤ x → is_among first n x ≡ f
 among_above first n x h = grind (arith, nat_tests)
 
 three : {A : Type 0} (first n x : ℕ) → (x < first → A) → (first ≤ x → x < first + n → A) → (first + n ≤ x → A) → A
-three first n x below inside above = elim (cases_lt x first) [ inl l ↦ below l | inr g ↦ (elim (cases_lt x (first + n)) [ inl l ↦ inside g l | inr g1 ↦ above g1 ]) ]
+three first n x below inside above = elim (cases_lt x first) [
+  | inl l ↦ below l
+  | inr g ↦
+      (elim (cases_lt x (first + n)) [ inl l ↦ inside g l | inr g1 ↦ above g1 ])
+]
 
 zero_or : (c : Bool) (v : ℕ) → v ≡ 0 → v ≡ (if c then 0 else v)
 zero_or true v e = e
 zero_or false v e = refl
 
 -- some words of the window became 0
-pub window_zeroed : (xs ys : List ℕ) (base n r c : ℕ) → Zeroed xs ys (base + r) (base + r + c) → window ys base n ≡ (λ x. if is_among r c x then 0 else window xs base n x)
+pub window_zeroed : (xs ys : List ℕ) (base n r c : ℕ) → Zeroed xs ys (base + r) (base + r + c)
+    → window ys base n ≡ (λ x. if is_among r c x then 0 else window xs base n x)
 window_zeroed xs ys base n r c z = fun_ext (λ x.
     elim (cases_lt x n) [
       | inl l ↦ window_in ys base n x l ∙ three r c x
@@ -144,10 +160,14 @@ pub arrays_zeroed : (xs ys : List ℕ) (base : ℕ) (lens : List ℕ) (a m : ℕ
 arrays_zeroed xs ys base lens a m z = fun_ext (λ x. fun_ext (λ i.
     elim (cases_lt i (slice_index lens x)) [
       | inl l ↦ element_in ys base lens x i l ∙ three a m x
-          (λ h. z.before (base + start_of lens x + i) (omega (arith, before_later lens x a i l h)) ∙ sym (element_in xs base lens x i l) ∙ sym (if_no (is_among a m x) 0 (arrays_in xs base lens x i) (among_below a m x h)))
-          (λ g h. z.inside (base + start_of lens x + i) (omega (arith, start_le lens a x g)) (omega (arith, before_later lens x (a + m) i l h)) ∙ sym (if_yes (is_among a m x) 0 (arrays_in xs base lens x i) (among_yes a m x g h)))
-          (λ g. z.after (base + start_of lens x + i) (omega (arith, start_le lens (a + m) x g)) ∙ sym (element_in xs base lens x i l) ∙ sym (if_no (is_among a m x) 0 (arrays_in xs base lens x i) (among_above a m x g)))
-      | inr g ↦ element_out ys base lens x i g ∙ sym (element_out xs base lens x i g) ∙ zero_or (is_among a m x) (arrays_in xs base lens x i) (element_out xs base lens x i g)
+          (λ h. z.before (base + start_of lens x + i) (omega (arith, before_later lens x a i l h)) ∙ sym (element_in xs base lens x i l) ∙ sym
+          (if_no (is_among a m x) 0 (arrays_in xs base lens x i) (among_below a m x h)))
+          (λ g h. z.inside (base + start_of lens x + i) (omega (arith, start_le lens a x g)) (omega (arith, before_later lens x (a + m) i l h)) ∙ sym
+          (if_yes (is_among a m x) 0 (arrays_in xs base lens x i) (among_yes a m x g h)))
+          (λ g. z.after (base + start_of lens x + i) (omega (arith, start_le lens (a + m) x g)) ∙ sym (element_in xs base lens x i l) ∙ sym
+          (if_no (is_among a m x) 0 (arrays_in xs base lens x i) (among_above a m x g)))
+      | inr g ↦ element_out ys base lens x i g ∙ sym (element_out xs base lens x i g) ∙ zero_or (is_among a m x) (arrays_in xs base lens x i)
+          (element_out xs base lens x i g)
     ]))
 
 pub from_list_is : (vs : List ℕ) (x : ℕ) → from_list vs x ≡ slice_index vs x
@@ -176,7 +196,8 @@ window_call xs args n m le = fun_ext (λ x.
 pub arrays_call : (xs : List ℕ) (lens : List ℕ) (m : ℕ) → arrays_in (xs ++ replicate m 0) (length xs) lens ≡ (λ a i. 0)
 arrays_call xs lens m = fun_ext (λ a. fun_ext (λ i.
     elim (cases_lt i (slice_index lens a)) [
-      | inl l ↦ element_in (xs ++ replicate m 0) (length xs) lens a i l ∙ ap (λ (k : ℕ). slice_index (xs ++ replicate m 0) k) (omega arith) ∙ get_or-append-add xs (replicate m 0) (start_of lens a + i) 0 ∙ zeros m (start_of lens a + i)
+      | inl l ↦ element_in (xs ++ replicate m 0) (length xs) lens a i l ∙ ap (λ (k : ℕ). slice_index (xs ++ replicate m 0) k) (omega arith) ∙ get_or-append-add
+          xs (replicate m 0) (start_of lens a + i) 0 ∙ zeros m (start_of lens a + i)
       | inr g ↦ element_out (xs ++ replicate m 0) (length xs) lens a i g
     ]))
 
@@ -184,14 +205,18 @@ arrays_call xs lens m = fun_ext (λ a. fun_ext (λ i.
 pub window_below : (xs ys : List ℕ) (base n h : ℕ) → take h xs ≡ take h ys → base + n ≤ h → window xs base n ≡ window ys base n
 window_below xs ys base n h e le = fun_ext (λ x.
     elim (cases_lt x n) [
-      | inl l ↦ window_in xs base n x l ∙ sym (get_or-take h xs (base + x) 0 (omega arith)) ∙ ap (λ (zs : List ℕ). slice_index zs (base + x)) e ∙ get_or-take h ys (base + x) 0 (omega arith) ∙ sym (window_in ys base n x l)
+      | inl l ↦ window_in xs base n x l ∙ sym (get_or-take h xs (base + x) 0 (omega arith)) ∙ ap (λ (zs : List ℕ). slice_index zs (base + x)) e ∙ get_or-take h
+          ys (base + x) 0 (omega arith) ∙ sym (window_in ys base n x l)
       | inr g ↦ window_out xs base n x g ∙ sym (window_out ys base n x g)
     ])
 
-pub arrays_below : (xs ys : List ℕ) (base : ℕ) (lens : List ℕ) (h : ℕ) → take h xs ≡ take h ys → base + sum lens ≤ h → arrays_in xs base lens ≡ arrays_in ys base lens
+pub arrays_below : (xs ys : List ℕ) (base : ℕ) (lens : List ℕ) (h : ℕ) → take h xs ≡ take h ys → base + sum lens ≤ h
+    → arrays_in xs base lens ≡ arrays_in ys base lens
 arrays_below xs ys base lens h e le = fun_ext (λ a. fun_ext (λ i.
     elim (cases_lt i (slice_index lens a)) [
-      | inl l ↦ element_in xs base lens a i l ∙ sym (get_or-take h xs (base + start_of lens a + i) 0 (omega (arith, before_end lens a i l))) ∙ ap (λ (zs : List ℕ). slice_index zs (base + start_of lens a + i)) e ∙ get_or-take h ys (base + start_of lens a + i) 0 (omega (arith, before_end lens a i l)) ∙ sym (element_in ys base lens a i l)
+      | inl l ↦ element_in xs base lens a i l ∙ sym (get_or-take h xs (base + start_of lens a + i) 0 (omega (arith, before_end lens a i l))) ∙ ap
+          (λ (zs : List ℕ). slice_index zs (base + start_of lens a + i)) e ∙ get_or-take h ys (base + start_of lens a + i) 0
+          (omega (arith, before_end lens a i l)) ∙ sym (element_in ys base lens a i l)
       | inr g ↦ element_out xs base lens a i g ∙ sym (element_out ys base lens a i g)
     ]))
 

@@ -1,7 +1,8 @@
 -- How often each routine of a program was called, and each of its sites made its call.
 use Rattle.std.proofs.Common.{inl, inr}
 use Rattle.std.specs.Borrow.{MutBor}
-use Rattle.std.specs.Prelude.{◌≡◌, ◌⊎◌, ℕ, ◌+◌, ◌<◌, ◌&&◌, ◌++◌, Bool, List, [], ◌∷◌, length, map, replicate, get_or, min, nat_eq, slice_index, slice_index_or, slice_set, if◌then◌else◌, ⊤, Option, Some, None}
+use Rattle.std.specs.Prelude.{◌≡◌, ◌⊎◌, ℕ, ◌+◌, ◌<◌, ◌&&◌, ◌++◌, Bool, List, [], ◌∷◌, length, map, replicate, get_or, min, nat_eq, slice_index}
+use Rattle.std.specs.Prelude.{slice_index_or, slice_set, if◌then◌else◌, ⊤, Option, Some, None}
 use Rattle.std.specs.List.{range_with_len}
 use Rattle.il_core.specs.declared.instr.Block.{Block}
 use Rattle.il_core.specs.declared.instr.Instr.{Instr}
@@ -65,7 +66,8 @@ counted c i k j = record { entries = raised c.entries j; sites = slice_set c.sit
 pub record IsNumbered (r : RoutineParts) (n : Numbering) : Type 0 where
   pub count : length n.starts.items ≡ length r.blocks
   pub within : (b j : ℕ) → b < length r.blocks → j < length (block_in r b).instrs → slice_index n.starts.items b + j < length n.numbers.items
-  pub number : (b j : ℕ) → b < length r.blocks → j < length (block_in r b).instrs → slice_index n.numbers.items (slice_index n.starts.items b + j) ≡ site_at r b j
+  pub number : (b j : ℕ) → b < length r.blocks → j < length (block_in r b).instrs
+      → slice_index n.numbers.items (slice_index n.starts.items b + j) ≡ site_at r b j
 
 -- a counter of a program's calls
 pub record IsCounter (p : IlProgram) (c : Counter) : Type 0 where

@@ -1,5 +1,6 @@
 -- What is still to come from a running program.
-use Rattle.std.specs.Prelude.{◌≡◌, ℕ, suc, ◌+◌, ◌-◌, ◌*◌, ◌^◌, ◌<◌, ◌≤◌, ◌++◌, false, List, [], ◌∷◌, length, take, drop, sum, sum_by, slice_index, slice_index_or, Option, Some, None}
+use Rattle.std.specs.Prelude.{◌≡◌, ℕ, suc, ◌+◌, ◌-◌, ◌*◌, ◌^◌, ◌<◌, ◌≤◌, ◌++◌, false, List, [], ◌∷◌, length, take, drop, sum, sum_by, slice_index}
+use Rattle.std.specs.Prelude.{slice_index_or, Option, Some, None}
 use Rattle.il_core.specs.Limits.{max_pids}
 use Rattle.il_core.specs.declared.instr.Block.{Block}
 use Rattle.il_core.specs.declared.instr.Instr.{Instr}
@@ -45,9 +46,11 @@ block_in r b = slice_index_or r.blocks b (record { instrs = []; end = ends.Exit 
 -- the tables are the program's
 pub record IsTabled (p : IlProgram) (t : Tables) : Type 0 where
   pub pids : length t.position.items ≡ max_pids
-  pub position : (q : ℕ) (r : RoutineParts) → routine_at p.routines q ≡ Some r → (slice_index t.position.items q < length p.routines) × (routine_in p (slice_index t.position.items q) ≡ r)
+  pub position : (q : ℕ) (r : RoutineParts) → routine_at p.routines q ≡ Some r
+      → (slice_index t.position.items q < length p.routines) × (routine_in p (slice_index t.position.items q) ≡ r)
   pub count : length t.arrays.items ≡ length p.routines
-  pub arrays : (i : ℕ) (l : Layout) → i < length p.routines → l ≡ slice_index_or t.arrays.items i l → (l.sizes.items ≡ (routine_in p i).arrays) × AreStarts l.sizes.items l.starts.items
+  pub arrays : (i : ℕ) (l : Layout) → i < length p.routines → l ≡ slice_index_or t.arrays.items i l
+      → (l.sizes.items ≡ (routine_in p i).arrays) × AreStarts l.sizes.items l.starts.items
   pub sizes : (g : ℕ) → slice_index t.objects.sizes.items g ≡ words_of p.objects g
   pub starts : AreStarts t.objects.sizes.items t.objects.starts.items
 
@@ -81,11 +84,16 @@ work r block instr = blocks_size (drop block r.blocks) - instr
 
 -- a number that falls with each step: a turn counts for more than all that a routine has
 abbrev pub fuel : IlProgram → Machine → ℕ
-fuel p m = m.turns * 2 ^ 17 + work (routine_in p m.routine) m.block m.instr + sum_by (λ (s : Suspended). work (routine_in p s.routine) s.block s.instr) m.stack.items
+fuel p m = m.turns * 2 ^ 17 + work (routine_in p m.routine) m.block m.instr + sum_by (λ (s : Suspended). work (routine_in p s.routine) s.block s.instr)
+    m.stack.items
 
 -- the frame of a waiting call
 abbrev pub frame_at : IlProgram → List ℕ → List ℕ → Suspended → Frame
-frame_at p regs elements s = record { regs = window regs s.at_regs (routine_in p s.routine).regs; arrays = arrays_in elements s.at_elements (routine_in p s.routine).arrays }
+frame_at p regs elements s = record {
+  regs = window regs s.at_regs (routine_in p s.routine).regs;
+  arrays = arrays_in elements s.at_elements
+      (routine_in p s.routine).arrays;
+}
 
 module _ {S : Type 0} (note : Recorder S) (p : IlProgram) where
   -- a waiting call goes on with what the call that it waits for returns
@@ -99,7 +107,14 @@ module _ {S : Type 0} (note : Recorder S) (p : IlProgram) where
   resume regs elements (s ∷ ss) o = receive regs elements s (resume regs elements ss o)
 
   abbrev pub world_in : Tables → Machine → List ℕ → List ℕ → S → World S
-  world_in t m input output log = record { objects = arrays_in m.store.words.items 0 t.objects.sizes.items; input = input; output = output; turns = m.turns; log = log }
+  world_in t m input output log = record {
+    objects = arrays_in m.store.words.items 0 t.objects.sizes.items;
+    input = input;
+    output = output;
+    turns = m.turns;
+    log
+        = log;
+  }
 
   -- how the program goes on and ends from here, with this input left and this output so far
   abbrev pub left : Tables → Machine → List ℕ → List ℕ → S → Outcome S
@@ -147,7 +162,8 @@ pub record WantsByte (p : IlProgram) (t : Tables) (old new : Machine) (d : ℕ) 
   pub less : fuel p new < fuel p old
   pub at : ComesToGet p t old d
   pub reg : d < (routine_in p new.routine).regs
-  pub same : (input output : List ℕ) (calls : List MadeCall) (s : Store) → SetsReg new.store s d (first_byte input) → to_come p t old input output calls ≡ to_come p t (record new { store = s }) (other_bytes input) output calls
+  pub same : (input output : List ℕ) (calls : List MadeCall) (s : Store) → SetsReg new.store s d (first_byte input)
+      → to_come p t old input output calls ≡ to_come p t (record new { store = s }) (other_bytes input) output calls
 
 -- the number of the site that comes next
 abbrev pub site_at : RoutineParts → ℕ → ℕ → ℕ
@@ -173,14 +189,20 @@ pub record IsCalled (p : IlProgram) (m : Machine) : Type 0 where
 
 -- that call
 abbrev pub call_into : (p : IlProgram) (m : Machine) → IsCalled p m → MadeCall
-call_into p m c = record { caller = (routine_in p c.caller.routine).pid; site = site_at (routine_in p c.caller.routine) c.caller.block c.instr; callee = (routine_in p m.routine).pid }
+call_into p m c = record {
+  caller = (routine_in p c.caller.routine).pid;
+  site = site_at (routine_in p c.caller.routine) c.caller.block c.instr;
+  callee =
+      (routine_in p m.routine).pid;
+}
 
 -- a call was made
 pub record Calls (p : IlProgram) (t : Tables) (old new : Machine) : Type 0 where
   pub sound : IsSound p t new
   pub less : fuel p new < fuel p old
   pub called : IsCalled p new
-  pub same : (input output : List ℕ) (calls : List MadeCall) → to_come p t old input output calls ≡ to_come p t new input output (call_into p new called ∷ calls)
+  pub same : (input output : List ℕ) (calls : List MadeCall)
+      → to_come p t old input output calls ≡ to_come p t new input output (call_into p new called ∷ calls)
 
 -- the program ended so, with this output and these calls
 pub record Over (e : world.Ending) (output : List ℕ) (calls : List MadeCall) (o : Outcome (List MadeCall)) : Type 0 where

@@ -37,7 +37,8 @@ plain n (Set g s) m = Ok (record m { objects = put_element m.objects g 0 (m.fram
 plain n (GetX d g i) m = inside (m.frame.regs i) (n.object g) (record m { frame = with_reg m.frame d (m.objects g (m.frame.regs i)) })
 plain n (SetX g i s) m = inside (m.frame.regs i) (n.object g) (record m { objects = put_element m.objects g (m.frame.regs i) (m.frame.regs s) })
 plain n (GetA d a i) m = inside (m.frame.regs i) (n.array a) (record m { frame = with_reg m.frame d (m.frame.arrays a (m.frame.regs i)) })
-plain n (SetA a i s) m = inside (m.frame.regs i) (n.array a) (record m { frame = record m.frame { arrays = put_element m.frame.arrays a (m.frame.regs i) (m.frame.regs s) } })
+plain n (SetA a i s) m = inside (m.frame.regs i) (n.array a) (record m
+    { frame = record m.frame { arrays = put_element m.frame.arrays a (m.frame.regs i) (m.frame.regs s) } })
 plain n (Clear r c a k) m = Ok (record m { frame = cleared m.frame r c a k })
 plain n Turn m = Ok m
 plain n (Call dest p count args) m = Ok m
@@ -74,7 +75,8 @@ pub record KeepsBelow (old new : Store) : Type 0 where
 -- an instruction of a routine was executed, or trapped
 pub record Executes (r : RoutineParts) (sizes : List ℕ) (i : Instr) (old new : Store) (result : Result (Unit {0}) Trap) : Type 0 where
   pub below : KeepsBelow old new
-  pub effect : MatchResult result (λ _. plain (lengths_of r sizes) i (data_in old r sizes) ≡ Ok (data_in new r sizes)) (λ t. plain (lengths_of r sizes) i (data_in old r sizes) ≡ Err t)
+  pub effect : MatchResult result (λ _. plain (lengths_of r sizes) i (data_in old r sizes) ≡ Ok (data_in new r sizes))
+      (λ t. plain (lengths_of r sizes) i (data_in old r sizes) ≡ Err t)
 
 -- the registers, arrays and objects that an instruction names are there
 abbrev pub Fits : RoutineParts → List ℕ → Instr → Type 0

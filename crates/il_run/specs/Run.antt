@@ -55,9 +55,11 @@ pub record Uses (p : IlProgram) (t : Tables) (old new : Machine) (made : List Ma
   pub bytes : List ℕ
   pub out : List ℕ
   pub consumed : Consumes known known_now bytes
-  pub alike : (more output : List ℕ) (calls : List MadeCall) → to_come p t old (bytes ++ more) output calls ≡ to_come p t new more (output ++ out) (made ++ calls)
+  pub alike : (more output : List ℕ) (calls : List MadeCall)
+      → to_come p t old (bytes ++ more) output calls ≡ to_come p t new more (output ++ out) (made ++ calls)
 
-pub record Round (p : IlProgram) (t : Tables) (old new : Machine) (counter counter_now : Option Counter) (known known_now put put_now : Option (List ℕ)) (ended : Bool) : Type 0 where
+pub record Round (p : IlProgram) (t : Tables) (old new : Machine) (counter counter_now : Option Counter) (known known_now put put_now : Option (List ℕ))
+    (ended : Bool) : Type 0 where
   pub sound : IsSound p t new
   pub less : fuel p new < fuel p old
   pub made : List MadeCall

@@ -1,5 +1,6 @@
 -- The input and the output of a run, some bytes of which are kept on the way.
-use Rattle.std.specs.Prelude.{◌≡◌, ◌<◌, ◌++◌, ◌⊎◌, ℕ, Bool, false, ◌≤◌, List, [], ◌∷◌, length, take, drop, Option, Result, MatchResult, MatchOption, ⊤, Some, None}
+use Rattle.std.specs.Prelude.{◌≡◌, ◌<◌, ◌++◌, ◌⊎◌, ℕ, Bool, false, ◌≤◌, List, [], ◌∷◌, length, take, drop, Option, Result, MatchResult, MatchOption, ⊤}
+use Rattle.std.specs.Prelude.{Some, None}
 use Rattle.std.specs.Io.KnownBytes.{Appends, Consumes, IsAtEnd, Keeps}
 use Rattle.std.specs.List.{AllByRecursion}
 use Rattle.outside.specs.Asks.{bytes_given}

@@ -18,4 +18,5 @@ pub record HasSizes (os : List ObjectParts) (i : ℕ) (sizes : List ℕ) : Type 
 -- the arrays of each routine
 pub record AreLayouts (rs : List RoutineParts) (layouts : List Layout) : Type 0 where
   pub count : length layouts ≡ length rs
-  pub each : (i : ℕ) (l : Layout) → i < length rs → l ≡ slice_index_or layouts i l → (l.sizes.items ≡ (routine_of rs i).arrays) × AreStarts l.sizes.items l.starts.items
+  pub each : (i : ℕ) (l : Layout) → i < length rs → l ≡ slice_index_or layouts i l
+      → (l.sizes.items ≡ (routine_of rs i).arrays) × AreStarts l.sizes.items l.starts.items

@@ -48,7 +48,8 @@ impl Ahead {
         ensures failed { OnErr result (FailsAt self.old self.new) }
         ensures asked { AsksOnceAtMost self.old (I.left input.old) (I.left input.new) (I.asks input.old) (I.asks input.new) }
         ensures gives { GivesNext (prepend_known (ahead self.old) (I.left input.old)) (prepend_known (ahead self.new) (I.left input.new)) result }
-        ensures asks { (start : Option (List Ask)) → AsksSo start (I.asks input.old) self.old.ended → MatchResult result (λ _. AsksSo start (I.asks input.new) self.new.ended) (λ _. AsksInTurn start (I.asks input.new)) }
+        ensures asks { (start : Option (List Ask)) → AsksSo start (I.asks input.old) self.old.ended
+            → MatchResult result (λ _. AsksSo start (I.asks input.new) self.new.ended) (λ _. AsksInTurn start (I.asks input.new)) }
         ensures cause { HasCause (I.faults input.old) (I.faults input.new) result }
     {
         if self.next < self.end {
@@ -90,7 +91,8 @@ impl Ahead {
         ensures failed { OnErr result (FailsAt self.old self.new) }
         ensures asked { AsksOnce self.old (I.left input.old) (I.left input.new) (I.asks input.old) (I.asks input.new) }
         ensures known { Keeps (prepend_known (ahead self.old) (I.left input.old)) (prepend_known (ahead self.new) (I.left input.new)) }
-        ensures asks { (start : Option (List Ask)) → AsksSo start (I.asks input.old) false → MatchResult result (λ _. AsksSo start (I.asks input.new) self.new.ended) (λ _. AsksInTurn start (I.asks input.new)) }
+        ensures asks { (start : Option (List Ask)) → AsksSo start (I.asks input.old) false
+            → MatchResult result (λ _. AsksSo start (I.asks input.new) self.new.ended) (λ _. AsksInTurn start (I.asks input.new)) }
         ensures cause { HasCause (I.faults input.old) (I.faults input.new) result }
     {
         let n = input.read(self.block.as_mut_slice())?;

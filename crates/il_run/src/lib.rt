@@ -17,3 +17,4 @@ mod tables;
 pub use counts::Counts;
 pub use ending::{Ending, RunFault};
 pub use rounds::run;
+pub use start::main_of;

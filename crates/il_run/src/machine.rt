@@ -106,7 +106,8 @@ impl Machine {
         requires sound { IsSound p.now t.now self.old }
         requires routine { routine.now ≡ routine_in p.now self.old.routine }
         requires instrs { instrs.now ≡ (block_in (routine_in p.now self.old.routine) self.old.block).instrs }
-        ensures { MatchResult result (λ _. RunsPlain p.now t.now self.old self.new) (λ trap. Moved p.now t.now self.old self.new (Move.End (Ending.Trapped trap))) }
+        ensures { MatchResult result (λ _. RunsPlain p.now t.now self.old self.new)
+            (λ trap. Moved p.now t.now self.old self.new (Move.End (Ending.Trapped trap))) }
     {
         let arrays = &t.arrays[self.routine as usize];
         let mut at = self.instr;

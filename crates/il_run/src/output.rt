@@ -28,7 +28,8 @@ impl Pending {
 
     /// One more byte waits. Where there are too many, they are written first.
     pub fn put<O: Sink>(&mut self, out: &mut O, b: u8) -> Result<(), RunFault>
-        ensures bytes { OnOk result (Appends (append_known (O.taken out.old) self.old.bytes.items) (append_known (O.taken out.new) self.new.bytes.items) (b ∷ [])) }
+        ensures bytes { OnOk result (Appends (append_known (O.taken out.old) self.old.bytes.items)
+            (append_known (O.taken out.new) self.new.bytes.items) (b ∷ [])) }
         ensures front { GainsFront (O.taken out.old) (O.taken out.new) self.old.bytes.items }
         ensures cause { IfErr result (λ f. IsOutputFault f (O.faults out.old) (O.faults out.new)) }
         ensures later { O.faults out.old ≤ O.faults out.new }

@@ -49,7 +49,8 @@ pub fn run<I: Source, O: Sink>(
 ) -> Result<Ending, RunFault>
     requires valid { IsProgram p.now }
     requires counts { AreNew p.now counts }
-    ensures counted { IfOk result (λ _. IfTold (I.left input.old) (λ bytes. CountsAt counts.entry counts.exit (λ c. c ≡ counts_of p.now (calls_made p.now bytes turns)))) }
+    ensures counted { IfOk result (λ _. IfTold (I.left input.old)
+        (λ bytes. CountsAt counts.entry counts.exit (λ c. c ≡ counts_of p.now (calls_made p.now bytes turns)))) }
     ensures shape { CountsAt counts.entry counts.exit (λ c. HasShape p.now c) }
     ensures ends { IfOk result (λ e. IfTold (I.left input.old) (EndsAs p.now turns e (O.taken out.old) (O.taken out.new))) }
     ensures stops { OnErr result (IfTold (I.left input.old) (StopsWithin p.now turns (O.taken out.old) (O.taken out.new))) }
@@ -231,8 +232,11 @@ fn round<I: Source, O: Sink>(
     ensures front { GainsFront (O.taken out.old) (O.taken out.new) pending.old.bytes.items }
     ensures cause { IfErr result (λ f. HasReason f (I.faults input.old) (I.faults input.new) (O.faults out.old) (O.faults out.new)) }
     ensures shut { given.old.ended ≡ true → given.new.ended ≡ true }
-    ensures wanted { result ≡ Err RunFault.Input → FailedAsk p.now t.now machine.old given.old given.new (prepend_known (ahead given.old) (I.left input.old)) (prepend_known (ahead given.new) (I.left input.new)) }
-    ensures asks { (start : Option (List Ask)) → AsksSo start (I.asks input.old) given.old.ended → MatchResult result (λ _. AsksSo start (I.asks input.new) given.new.ended) (λ _. AsksInTurn start (I.asks input.new)) }
+    ensures wanted { result ≡ Err RunFault.Input
+        → FailedAsk p.now t.now machine.old given.old given.new (prepend_known (ahead given.old) (I.left input.old))
+        (prepend_known (ahead given.new) (I.left input.new)) }
+    ensures asks { (start : Option (List Ask)) → AsksSo start (I.asks input.old) given.old.ended
+        → MatchResult result (λ _. AsksSo start (I.asks input.new) given.new.ended) (λ _. AsksInTurn start (I.asks input.new)) }
     ensures input_later { I.faults input.old ≤ I.faults input.new }
     ensures output_later { O.faults out.old ≤ O.faults out.new }
 {

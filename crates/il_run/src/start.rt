@@ -45,8 +45,8 @@ pub fn start(alloc: Global, p: &IlProgram, t: &Tables, turns: u64) -> Result<Mac
     })
 }
 
-/// The PID of the name `main`, or 0.
-fn main_of(shapes: &Shapes) -> u32
+/// The PID of the name `main`, or 0 where there is none. It takes time linear in the shapes.
+pub fn main_of(shapes: &Shapes) -> u32
     ensures { result ≡ main_pid shapes.now }
 {
     for row in shapes.rows.as_slice() {

@@ -16,7 +16,7 @@ returns-in-Err-clause-promise g c =
 pub returns-in-Ok-check_modules-clause-promise : goal.returns-in-Ok-check_modules-clause-promise
 returns-in-Ok-check_modules-clause-promise g c =
     check_passes _ _ _ _ (Says _ _ _ _) _ c.as_slice.result.now (subst (AsksCheck _) (sym c.as_slice.ensures) c.in-Ok.ensures.ok)
-    refl (says_nothing _ _) (_, c.in-Ok-check_modules.ensures.ok) (no_refusal _ c.in-Ok-check_modules.ensures.refuses)
+    refl (says_nothing _ _) (_, c.in-Ok-check_modules.ensures.typed) (no_refusal _ c.in-Ok-check_modules.ensures.refuses)
 
 pub returns-clause-promise : goal.returns-clause-promise
 returns-clause-promise g c =

@@ -38,7 +38,8 @@ returns-in-Unreadable g c = says _ _ _ _ _ _ _
 
 pub returns-in-Unfit : goal.returns-in-Unfit
 returns-in-Unfit g c = says _ _ _ _ _ _ _
-    (ap unfit_line c.from.ensures ∙ ap (refusal_line c.args.syms.now) (sym c.in-Unfit.is)) c.write_counts-in-Unfit.ensures.bytes c.write_counts-in-Unfit.ensures.cause
+    (ap unfit_line c.from.ensures ∙ ap (refusal_line c.args.syms.now) (sym c.in-Unfit.is)) c.write_counts-in-Unfit.ensures.bytes
+    c.write_counts-in-Unfit.ensures.cause
 
 pub returns-in-TooSmall : goal.returns-in-TooSmall
 returns-in-TooSmall g c = says _ _ _ _ _ _ _

@@ -1,13 +1,12 @@
-use Rattle.std.proofs.Common.{ℕ, List, refl, sym, ap, subst, ◌∙◌}
+use Rattle.std.proofs.Common.{ℕ, List, sym, subst, ◌∙◌}
 use Rattle.std.proofs.Math.Path.{fun_ext}
 use Rattle.naim_loader.specs.Paged.{IsGood}
 use Rattle.outside.specs.Told.{Told}
 use Rattle.profile.specs.Counts.{counts_of}
 use Rattle.hlo_cmd.specs.Messages.{Says}
-use Rattle.hlo_cmd.specs.Opt.{OptPromise}
 use Rattle.hlo_cmd.specs.Profiles.{HasCounts}
 use Rattle.hlo_cmd.proofs.Fronts.{keeps_itself}
-use Rattle.hlo_cmd.proofs.Opts.{opt_memory, opt_profile}
+use Rattle.hlo_cmd.proofs.Opts.{opt_profile}
 use Rattle.hlo_cmd.proofs.Verdicts.{said_by, status_by}
 use Rattle.hlo_cmd.proofs.opt.serve_settings.Goals as goal
 

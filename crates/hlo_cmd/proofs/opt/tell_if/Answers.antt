@@ -1,6 +1,3 @@
-use Rattle.std.proofs.Common.{ap, sym, subst}
-use Rattle.hlo_cmd.specs.Messages.{Says}
-use Rattle.hlo_cmd.specs.Opt.{report_line}
 use Rattle.hlo_cmd.proofs.opt.tell_if.Goals as goal
 
 pub returns-then-stats : goal.returns-then-stats

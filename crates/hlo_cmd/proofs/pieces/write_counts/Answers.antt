@@ -22,7 +22,8 @@ returns-in_err-write_count-clause-bytes g c =
 pub returns-clause-bytes : goal.returns-clause-bytes
 returns-clause-bytes g c =
     let end : c.loop-count.count-index ≡ length c.args.counts.now = omega (arith, c.loop-count.auto.count-index-end, c.loop-count-test.false) in
-    let taken = subst (λ k. Appends (g.O.Sink.taken c.args.o.now) (g.O.Sink.taken c.loop-count.o) (flat_map (λ c. c.0.now ++ decimal c.1) (take k c.args.counts.now)))
+    let taken = subst (λ k. Appends (g.O.Sink.taken c.args.o.now) (g.O.Sink.taken c.loop-count.o)
+    (flat_map (λ c. c.0.now ++ decimal c.1) (take k c.args.counts.now)))
     end c.loop-count.invariant.taken in
     let whole = subst (λ l. Appends (g.O.Sink.taken c.args.o.now) (g.O.Sink.taken c.loop-count.o) (flat_map (λ c. c.0.now ++ decimal c.1) l))
     (take-length c.args.counts.now) taken in

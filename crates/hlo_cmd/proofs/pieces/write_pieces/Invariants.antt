@@ -1,5 +1,5 @@
-use Rattle.std.proofs.Common.{◌≤◌, ◌++◌, take}
-use Rattle.std.specs.Prelude.{decimal, flat_map}
+use Rattle.std.proofs.Common.{◌≤◌, take}
+use Rattle.std.specs.Prelude.{flat_map}
 use Rattle.std.specs.Io.KnownBytes.{Appends}
 use Rattle.hlo_cmd.proofs.pieces.write_pieces.Given as goal
 

@@ -7,7 +7,8 @@ pub returns-in_default-clause-usage : goal.returns-in_default-clause-usage
 returns-in_default-clause-usage c = λ e file h. not_given (found_of c.args.matches.now) c.get_strs.result c.get_strs.ensures (file ∷ []) c.in_default.is h
 
 pub returns-then-names-ne1-clause-usage : goal.returns-then-names-ne1-clause-usage
-returns-then-names-ne1-clause-usage c = λ e file h. c.if-names-ne1.true (sym (as_many (found_of c.args.matches.now) c.get_strs.result c.get_strs.ensures c.in-Some.names c.in-Some.is (file ∷ []) h))
+returns-then-names-ne1-clause-usage c = λ e file h. c.if-names-ne1.true
+    (sym (as_many (found_of c.args.matches.now) c.get_strs.result c.get_strs.ensures c.in-Some.names c.in-Some.is (file ∷ []) h))
 
 pub returns-clause-ok : goal.returns-clause-ok
 returns-clause-ok c = given (found_of c.args.matches.now) c.get_strs.result c.get_strs.ensures c.in-Some.names c.in-Some.is

@@ -9,13 +9,15 @@ pub returns-in-Some-clause-found : goal.returns-in-Some-clause-found
 returns-in-Some-clause-found c =
     let is : first_of (codes "turns") (rows_of (found_of c.args.matches.now)) ≡ Some c.in-Some.text.now =
     first_given (codes "turns") (found_of c.args.matches.now) _ c.get_str.ensures ∙ ap (option_map (λ s. s.now)) c.in-Some.is in
-    found_value (codes "turns") 1000000000 0 1000000000000 (rows_of (found_of c.args.matches.now)) c.in-Some.text.now is c.number_in.result c.number_in.ensures.found
+    found_value (codes "turns") 1000000000 0 1000000000000 (rows_of (found_of c.args.matches.now)) c.in-Some.text.now is c.number_in.result
+    c.number_in.ensures.found
 
 pub returns-in-Some-clause-none : goal.returns-in-Some-clause-none
 returns-in-Some-clause-none c =
     let is : first_of (codes "turns") (rows_of (found_of c.args.matches.now)) ≡ Some c.in-Some.text.now =
     first_given (codes "turns") (found_of c.args.matches.now) _ c.get_str.ensures ∙ ap (option_map (λ s. s.now)) c.in-Some.is in
-    no_value (codes "turns") 1000000000 0 1000000000000 (rows_of (found_of c.args.matches.now)) c.in-Some.text.now is c.number_in.result c.number_in.ensures.none
+    no_value (codes "turns") 1000000000 0 1000000000000 (rows_of (found_of c.args.matches.now)) c.in-Some.text.now is c.number_in.result
+    c.number_in.ensures.none
 
 pub returns-in-None-clause-found : goal.returns-in-None-clause-found
 returns-in-None-clause-found c =

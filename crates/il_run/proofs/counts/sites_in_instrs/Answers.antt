@@ -4,7 +4,8 @@ use Rattle.il_run.proofs.counts.sites_in_instrs.Goals as goal
 
 pub loop-instr-preserved : goal.loop-instr-preserved
 loop-instr-preserved c = record {
-  count = sites_more c.args.instrs.now c.loop-instr.instr-index c.instr-item.result c.loop-instr.count c.sites_at.result c.loop-instr-test.true c.instr-item.is c.loop-instr.invariant.count c.sites_at.ensures.count;
+  count = sites_more c.args.instrs.now c.loop-instr.instr-index c.instr-item.result c.loop-instr.count c.sites_at.result c.loop-instr-test.true c.instr-item.is
+      c.loop-instr.invariant.count c.sites_at.ensures.count;
   few = omega (arith, c.loop-instr.invariant.few, c.sites_at.ensures.few);
 }
 

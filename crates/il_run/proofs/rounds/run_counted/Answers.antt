@@ -19,4 +19,5 @@ pub returns-in_default-clause-stops : goal.returns-in_default-clause-stops
 returns-in_default-clause-stops g c = if_told _ _ (λ bytes e. stops_first _ _ _ bytes c.requires.valid)
 
 pub run_counting-ended-requires-clause-counter : goal.run_counting-ended-requires-clause-counter
-run_counting-ended-requires-clause-counter g c = counter_ready _ c.as_slice.result.now _ c.as_slice.ensures c.in-Ok.ensures (shape_new _ _ (c.replace.ensures.value ∙ c.requires.counts))
+run_counting-ended-requires-clause-counter g c = counter_ready _ c.as_slice.result.now _ c.as_slice.ensures c.in-Ok.ensures
+    (shape_new _ _ (c.replace.ensures.value ∙ c.requires.counts))

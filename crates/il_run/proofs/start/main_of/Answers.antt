@@ -9,10 +9,12 @@ pub loop-row-init : goal.loop-row-init
 loop-row-init c = ap main_pid (c.as_slice-row-items.ensures ∙ c.shapes.view_is)
 
 pub loop-row-preserved : goal.loop-row-preserved
-loop-row-preserved c = main_passed c.as_slice-row-items.result.now c.args.shapes.now c.loop-row.row-index c.row-item.result c.loop-row-test.true c.row-item.is c.loop-row.invariant (sym c.if-eq.false ∙ c.eq.ensures ∙ (λ i. pointwise nat_eq (c.bytes.ensures.value i) (c.as_slice.ensures i)))
+loop-row-preserved c = main_passed c.as_slice-row-items.result.now c.args.shapes.now c.loop-row.row-index c.row-item.result c.loop-row-test.true c.row-item.is
+    c.loop-row.invariant (sym c.if-eq.false ∙ c.eq.ensures ∙ (λ i. pointwise nat_eq (c.bytes.ensures.value i) (c.as_slice.ensures i)))
 
 pub returns-then-eq : goal.returns-then-eq
-returns-then-eq c = main_taken c.as_slice-row-items.result.now c.args.shapes.now c.loop-row.row-index c.row-item.result c.loop-row-test.true c.row-item.is c.loop-row.invariant (sym c.if-eq.true ∙ c.eq.ensures ∙ (λ i. pointwise nat_eq (c.bytes.ensures.value i) (c.as_slice.ensures i)))
+returns-then-eq c = main_taken c.as_slice-row-items.result.now c.args.shapes.now c.loop-row.row-index c.row-item.result c.loop-row-test.true c.row-item.is
+    c.loop-row.invariant (sym c.if-eq.true ∙ c.eq.ensures ∙ (λ i. pointwise nat_eq (c.bytes.ensures.value i) (c.as_slice.ensures i)))
 
 pub returns : goal.returns
 returns c = main_none c.as_slice-row-items.result.now c.args.shapes.now c.loop-row.row-index c.loop-row-test.false c.loop-row.invariant

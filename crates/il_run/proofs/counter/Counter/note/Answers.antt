@@ -12,7 +12,11 @@ overflow_add-at c =
 pub index-requires-2 : goal.index-requires-2
 index-requires-2 c =
     let same = last_one _ _ c.as_slice-stack.result.now _ c.as_slice-stack.ensures.value c.requires.called in
-    omega (arith, within _ _ c.requires.valid _ c.requires.counter c.requires.called _ same _ c.index-row.ensures _ c.index.ensures, c.index-row.result.now.numbers.ok)
+    omega (
+      arith,
+      within _ _ c.requires.valid _ c.requires.counter c.requires.called _ same _ c.index-row.ensures _ c.index.ensures,
+      c.index-row.result.now.numbers.ok,
+    )
 
 pub count-requires-clause-site : goal.count-requires-clause-site
 count-requires-clause-site c =
@@ -22,4 +26,5 @@ count-requires-clause-site c =
 pub returns : goal.returns
 returns c = λ called.
     let same = last_one _ _ c.as_slice-stack.result.now _ c.as_slice-stack.ensures.value called in
-    counted_here _ _ c.requires.valid _ c.requires.counter called _ same _ c.index-row.ensures _ c.index.ensures _ c.index-2.ensures c.count.new.self c.requires.routine c.count.ensures
+    counted_here _ _ c.requires.valid _ c.requires.counter called _ same _ c.index-row.ensures _ c.index.ensures _ c.index-2.ensures c.count.new.self
+    c.requires.routine c.count.ensures

@@ -11,4 +11,5 @@ pub put-requires-clause-source : goal.put-requires-clause-source
 put-requires-clause-source c = (rw c.in-PutChar.is at (fits _ c.requires.valid _ c.requires.tabled _ c.requires.sound c.args.instr.now c.requires.next)).1
 
 pub unreachable-requires : goal.unreachable-requires
-unreachable-requires c = c.requires.special (plain_else c.args.instr.now c.in_default.not-Turn c.in_default.not-Call c.in_default.not-GetChar c.in_default.not-PutChar)
+unreachable-requires c = c.requires.special (plain_else c.args.instr.now c.in_default.not-Turn c.in_default.not-Call c.in_default.not-GetChar
+    c.in_default.not-PutChar)

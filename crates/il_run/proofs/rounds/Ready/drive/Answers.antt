@@ -1,5 +1,6 @@
 use Rattle.std.proofs.Common.{◌∙◌, le_trans, rules}
-use Rattle.il_run.proofs.Running.{if_told, told_map, nothing_ahead, starts_holding, round_holds, round_ends, round_counts, round_stops, told_both, starts_using, round_uses, round_wants, same_fault, still_open}
+use Rattle.il_run.proofs.Running.{if_told, told_map, nothing_ahead, starts_holding, round_holds, round_ends, round_counts, round_stops, told_both}
+use Rattle.il_run.proofs.Running.{starts_using, round_uses, round_wants, same_fault, still_open}
 use Rattle.il_run.proofs.Asking.{asks_first, asks_turn}
 use Rattle.il_run.proofs.Counting.{still_first, still_counter, still_more}
 use Rattle.il_run.proofs.Placing.{placed_all, placed_start, placed_more}
@@ -11,7 +12,8 @@ rounds-init g c = record {
   sound = c.requires.ready.starts.sound;
   fits = c.requires.ready.fits;
   at_end = search rules;
-  told = if_told _ _ (λ bytes e. starts_holding _ _ _ _ _ _ _ _ bytes c.requires.ready.starts c.requires.none (nothing_ahead _ _ bytes c.requires.ready.none e) c.requires.ready.empty);
+  told = if_told _ _ (λ bytes e. starts_holding _ _ _ _ _ _ _ _ bytes c.requires.ready.starts c.requires.none (nothing_ahead _ _ bytes c.requires.ready.none e)
+      c.requires.ready.empty);
   using_so = λ e. if_told _ _ (λ bytes e1. starts_using _ _ _ _ _ bytes c.requires.ready.starts (nothing_ahead _ _ bytes c.requires.ready.none e1));
   placed = placed_start _ _ _ _;
   counter = c.requires.counter;
@@ -30,8 +32,10 @@ rounds-preserved g c =
       fits = c.round-ended.ensures.fits;
       at_end = c.round-ended.ensures.ended;
       told = told_map _ _ _ c.rounds.invariant.told (λ bytes h. round_holds _ _ _ _ _ _ _ _ _ _ _ _ _ _ bytes _ h moved c.round-ended.ensures.front);
-      using_so = λ e. told_map _ _ _ (c.rounds.invariant.using_so (still_open _ _ c.round-ended.ensures.shut e)) (λ bytes h. round_uses _ _ _ _ _ _ _ _ bytes h (moved.uses e));
-      placed = told_both _ _ _ _ _ c.rounds.invariant.placed c.rounds.invariant.using_so (λ bytes h u. placed_more _ _ bytes _ _ _ _ _ _ _ _ c.rounds.invariant.tabled u h c.round-ended.ensures.asked);
+      using_so = λ e. told_map _ _ _ (c.rounds.invariant.using_so (still_open _ _ c.round-ended.ensures.shut e))
+          (λ bytes h. round_uses _ _ _ _ _ _ _ _ bytes h (moved.uses e));
+      placed = told_both _ _ _ _ _ c.rounds.invariant.placed c.rounds.invariant.using_so
+          (λ bytes h u. placed_more _ _ bytes _ _ _ _ _ _ _ _ c.rounds.invariant.tabled u h c.round-ended.ensures.asked);
       counter = still_counter _ _ _ c.rounds.invariant.counter c.round-ended.ensures.counter;
       still = still_more _ _ _ _ c.rounds.invariant.still c.round-ended.ensures.counter;
       asks = rw c.in-Ok.is at (c.round-ended.ensures.asks _ c.rounds.invariant.asks);
@@ -48,7 +52,8 @@ returns-in-Some-clause-ends g c =
     told_map _ _ _ c.rounds.invariant.told (λ bytes h. round_ends _ _ _ _ _ _ _ _ _ _ _ bytes h last)
 
 pub returns-in-Err-clause-stops : goal.returns-in-Err-clause-stops
-returns-in-Err-clause-stops g c = told_map _ _ _ c.rounds.invariant.told (λ bytes h. round_stops _ _ _ _ _ _ _ _ _ _ bytes c.requires.valid h c.round-ended.ensures.front)
+returns-in-Err-clause-stops g c = told_map _ _ _ c.rounds.invariant.told
+    (λ bytes h. round_stops _ _ _ _ _ _ _ _ _ _ bytes c.requires.valid h c.round-ended.ensures.front)
 
 pub returns-in-Some-clause-asks : goal.returns-in-Some-clause-asks
 returns-in-Some-clause-asks g c = asks_turn _ _ _ (rw c.in-Ok.is at (c.round-ended.ensures.asks _ c.rounds.invariant.asks))
@@ -74,7 +79,9 @@ pub returns-in-Err-clause-counter : goal.returns-in-Err-clause-counter
 returns-in-Err-clause-counter g c = still_more _ _ _ _ c.rounds.invariant.still c.round-ended.ensures.counter
 
 pub returns-in-Some-clause-asks_wanted : goal.returns-in-Some-clause-asks_wanted
-returns-in-Some-clause-asks_wanted g c = told_both _ _ _ _ _ c.rounds.invariant.placed c.rounds.invariant.using_so (λ bytes h u. placed_all _ _ _ _ _ bytes (placed_more _ _ bytes _ _ _ _ _ _ _ _ c.rounds.invariant.tabled u h c.round-ended.ensures.asked))
+returns-in-Some-clause-asks_wanted g c = told_both _ _ _ _ _ c.rounds.invariant.placed c.rounds.invariant.using_so
+    (λ bytes h u. placed_all _ _ _ _ _ bytes (placed_more _ _ bytes _ _ _ _ _ _ _ _ c.rounds.invariant.tabled u h c.round-ended.ensures.asked))
 
 pub returns-in-Err-clause-asks_wanted : goal.returns-in-Err-clause-asks_wanted
-returns-in-Err-clause-asks_wanted g c = told_both _ _ _ _ _ c.rounds.invariant.placed c.rounds.invariant.using_so (λ bytes h u. placed_all _ _ _ _ _ bytes (placed_more _ _ bytes _ _ _ _ _ _ _ _ c.rounds.invariant.tabled u h c.round-ended.ensures.asked))
+returns-in-Err-clause-asks_wanted g c = told_both _ _ _ _ _ c.rounds.invariant.placed c.rounds.invariant.using_so
+    (λ bytes h u. placed_all _ _ _ _ _ bytes (placed_more _ _ bytes _ _ _ _ _ _ _ _ c.rounds.invariant.tabled u h c.round-ended.ensures.asked))

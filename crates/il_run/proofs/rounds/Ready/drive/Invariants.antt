@@ -15,8 +15,10 @@ invariant-rounds g l = record {
   sound : IsSound l.p l.self.tables l.self.machine;
   fits : IsAhead l.self.given;
   at_end : l.self.given.ended ≡ true → IsAtEnd (g.I.Source.left l.input);
-  told : IfTold (g.I.Source.left l.fn.input) (Holding l.p l.self.tables l.turns l.self.machine l.counter (prepend_known (ahead l.self.given) (g.I.Source.left l.input)) (g.O.Sink.taken l.fn.out) (g.O.Sink.taken l.out) l.self.pending.bytes.items);
-  using_so : l.self.given.ended ≡ false → IfTold (g.I.Source.left l.fn.input) (Using l.p l.self.tables l.turns l.self.machine (prepend_known (ahead l.self.given) (g.I.Source.left l.input)));
+  told : IfTold (g.I.Source.left l.fn.input) (Holding l.p l.self.tables l.turns l.self.machine l.counter
+      (prepend_known (ahead l.self.given) (g.I.Source.left l.input)) (g.O.Sink.taken l.fn.out) (g.O.Sink.taken l.out) l.self.pending.bytes.items);
+  using_so : l.self.given.ended ≡ false
+      → IfTold (g.I.Source.left l.fn.input) (Using l.p l.self.tables l.turns l.self.machine (prepend_known (ahead l.self.given) (g.I.Source.left l.input)));
   placed : IfTold (g.I.Source.left l.fn.input) (PlacedIfTold l.p l.turns (g.I.Source.asks l.fn.input) (g.I.Source.asks l.input) (g.I.Source.left l.input));
   counter : IfSome l.counter (λ c. IsCounter l.p c);
   still : StillCounts l.p l.fn.counter l.counter;

@@ -6,4 +6,5 @@ use Rattle.il_core.proofs.Programs.{objects_small}
 use Rattle.il_run.proofs.tables.Tables.new.Goals as goal
 
 pub sizes_of-requires : goal.sizes_of-requires
-sizes_of-requires c = subst (λ (os : List ObjectParts). AllByRecursion (λ o. o.pid < max_pids) os) (sym c.as_slice.ensures) (objects_small c.args.p.now c.requires)
+sizes_of-requires c = subst (λ (os : List ObjectParts). AllByRecursion (λ o. o.pid < max_pids) os) (sym c.as_slice.ensures)
+    (objects_small c.args.p.now c.requires)
