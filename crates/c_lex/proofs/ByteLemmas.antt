@@ -1,5 +1,6 @@
 -- Facts on single bytes and on spelled words.
-use Rattle.std.proofs.Common.{ℕ, ◌≡◌, ◌+◌, ◌≤◌, refl, sym, ◌∙◌, ap, subst, Bool, true, false, ◌==◌, ◌&&◌, ◌||◌, if◌then◌else◌, List, [], ◌∷◌, ◌++◌, ◌⊎◌, inl, inr, Some, None, eqb-true, arith, zero-add, add_assoc}
+use Rattle.std.proofs.Common.{ℕ, ◌≡◌, ◌+◌, ◌≤◌, refl, sym, ◌∙◌, ap, subst, Bool, true, false, ◌==◌, ◌&&◌, ◌||◌, if◌then◌else◌, List, [], ◌∷◌, ◌++◌, ◌⊎◌}
+use Rattle.std.proofs.Common.{inl, inr, Some, None, eqb-true, arith, zero-add, add_assoc}
 use Rattle.std.proofs.lemmas.Bool.{leb-true}
 use Rattle.std.proofs.lemmas.Slice.Eq.{bytes_eq-Decides}
 use Rattle.c_lex.specs.declared.phase.Class.{Class}
@@ -30,11 +31,14 @@ OfClass c _ = Unit {0}
 pub of_class : (c : ℕ) → OfClass c (class_of c)
 unfolding class_of
 of_class c =
-    choose (OfClass c) (c == 32) _ _ (λ _. tt) (λ _. choose (OfClass c) (c == 9) _ _ (λ _. tt) (λ _. choose (OfClass c) (c == 11) _ _ (λ _. tt) (λ _. choose (OfClass c) (c == 12) _ _ (λ _. tt)
+    choose (OfClass c) (c == 32) _ _ (λ _. tt) (λ _. choose (OfClass c) (c == 9) _ _ (λ _. tt)
+    (λ _. choose (OfClass c) (c == 11) _ _ (λ _. tt) (λ _. choose (OfClass c) (c == 12) _ _ (λ _. tt)
     (λ _. choose (OfClass c) (c == 13) _ _ (λ _. tt) (λ _. choose (OfClass c) (c == 10) _ _ (λ e. eqb-true c 10 e)
-    (λ _. choose (OfClass c) (between 97 122 c) _ _ (λ _. tt) (λ _. choose (OfClass c) (between 65 90 c) _ _ (λ _. tt) (λ _. choose (OfClass c) (c == 95) _ _ (λ _. tt)
+    (λ _. choose (OfClass c) (between 97 122 c) _ _ (λ _. tt) (λ _. choose (OfClass c) (between 65 90 c) _ _ (λ _. tt)
+    (λ _. choose (OfClass c) (c == 95) _ _ (λ _. tt)
     (λ _. choose (OfClass c) (c == 48) _ _ (λ e. eqb-true c 48 e) (λ _. choose (OfClass c) (between 49 57 c) _ _ (λ e. leb-true 49 c (and_parts _ _ e).0)
-    (λ _. choose (OfClass c) (c == 35) _ _ (λ e. eqb-true c 35 e) (λ _. choose (OfClass c) (c == 34) _ _ (λ e. eqb-true c 34 e) (λ _. choose (OfClass c) (c == 39) _ _ (λ e. eqb-true c 39 e)
+    (λ _. choose (OfClass c) (c == 35) _ _ (λ e. eqb-true c 35 e)
+    (λ _. choose (OfClass c) (c == 34) _ _ (λ e. eqb-true c 34 e) (λ _. choose (OfClass c) (c == 39) _ _ (λ e. eqb-true c 39 e)
     (λ _. choose (OfClass c) (c == 47) _ _ (λ e. eqb-true c 47 e) (λ _. tt)))))))))))))))
 
 pub byte_of : (c : ℕ) (k : Class) → class_of c ≡ k → OfClass c k
@@ -120,11 +124,13 @@ x_no_octal c e = by_two (λ z. digit_of Octal z ≡ None) c 120 88 (one_of_two c
 
 pub u_no_digit : (b : Base) (c : ℕ) → is_u c ≡ true → (digit_of b c ≡ None) × (tail_of c ≡ tail.Unsigned) × (is_x c ≡ false)
 unfolding class_of
-u_no_digit b c e = by_two (λ z. (digit_of b z ≡ None) × (tail_of z ≡ tail.Unsigned) × (is_x z ≡ false)) c 117 85 (one_of_two c 117 85 e) (refl, refl, refl) (refl, refl, refl)
+u_no_digit b c e = by_two (λ z. (digit_of b z ≡ None) × (tail_of z ≡ tail.Unsigned) × (is_x z ≡ false)) c 117 85 (one_of_two c 117 85 e) (refl, refl, refl)
+    (refl, refl, refl)
 
 pub l_no_digit : (b : Base) (c : ℕ) → is_l c ≡ true → (digit_of b c ≡ None) × (tail_of c ≡ tail.Long) × (is_x c ≡ false)
 unfolding class_of
-l_no_digit b c e = by_two (λ z. (digit_of b z ≡ None) × (tail_of z ≡ tail.Long) × (is_x z ≡ false)) c 108 76 (one_of_two c 108 76 e) (refl, refl, refl) (refl, refl, refl)
+l_no_digit b c e = by_two (λ z. (digit_of b z ≡ None) × (tail_of z ≡ tail.Long) × (is_x z ≡ false)) c 108 76 (one_of_two c 108 76 e) (refl, refl, refl)
+    (refl, refl, refl)
 
 -- `x` stands in a number's run
 pub run_no_x : (c : ℕ) → in_run c ≡ false → is_x c ≡ false
@@ -182,4 +188,5 @@ has_close_front (a ∷ []) c h = let k = or_parts ((a == 42) && (c == 47)) (has_
     go : (b : Bool) → (b && false) ≡ false
     go true = refl
     go false = refl
-has_close_front (a ∷ b ∷ vs) c h = let k = or_parts ((a == 42) && (b == 47)) (has_close (b ∷ vs ++ c ∷ [])) h in let r = has_close_front (b ∷ vs) c k.1 in (or_from _ _ k.0 r.0, r.1)
+has_close_front (a ∷ b ∷ vs) c h = let k = or_parts ((a == 42) && (b == 47)) (has_close (b ∷ vs ++ c ∷ [])) h in let r = has_close_front (b ∷ vs) c k.1
+    in (or_from _ _ k.0 r.0, r.1)

@@ -1,12 +1,14 @@
 -- Character constants.
-use Rattle.std.proofs.Common.{ℕ, ◌≡◌, ◌+◌, ◌*◌, refl, sym, ◌∙◌, ap, subst, true, false, nat_lt, ◌==◌, ◌&&◌, ◌||◌, List, [], ◌∷◌, ◌++◌, Option, Some, None, Err, eqb-true, ltb-true}
+use Rattle.std.proofs.Common.{ℕ, ◌≡◌, ◌+◌, ◌*◌, refl, sym, ◌∙◌, ap, subst, true, false, nat_lt, ◌==◌, ◌&&◌, ◌||◌, List, [], ◌∷◌, ◌++◌, Option, Some}
+use Rattle.std.proofs.Common.{None, Err, eqb-true, ltb-true}
 use Rattle.c_lex.specs.declared.phase.Base.TheVariants.{Octal, Hex}
 use Rattle.c_lex.specs.declared.phase.Context.{Context}
 use Rattle.c_lex.specs.declared.phase.Piece.TheVariants as piece
 use Rattle.c_lex.specs.declared.phase.Phase.TheVariants as phase
 use Rattle.c_lex.specs.declared.fault.LexKind.TheVariants.{BadChar}
 use Rattle.c_lex.specs.Bytes.{digit_of}
-use Rattle.c_lex.specs.Pieces.{escape_of, IsOctalEscape, first_octal, next_octal, IsHexEscape, first_hex_digit, next_hex_digit, is_plain, IsQuoted, plain_byte, simple_escape, octal_escape, hex_escape, is_code, IsPiece, character}
+use Rattle.c_lex.specs.Pieces.{escape_of, IsOctalEscape, first_octal, next_octal, IsHexEscape, first_hex_digit, next_hex_digit, is_plain, IsQuoted}
+use Rattle.c_lex.specs.Pieces.{plain_byte, simple_escape, octal_escape, hex_escape, is_code, IsPiece, character}
 use Rattle.c_lex.specs.Text.{Cause, bad_char}
 use Rattle.c_lex.specs.Machine.{quote_byte, simple, octal_or_simple, escape_byte, hex_escape_byte, body_byte, octal_byte, hex_byte}
 use Rattle.std.proofs.lemmas.Bool.{and_parts, or_parts}
@@ -62,7 +64,8 @@ escape_good w us c (h, f) =
     go (Some d) q = (h, subst (λ z. IsOctalEscape 1 d (z ++ c ∷ [])) (sym f) (first_octal q))
     go None q = other (escape_of c) refl
 
-pub hex_escape_good : (w : Context) (us : List ℕ) (c : ℕ) → Fine w phase.HexEscape us → (o : Option ℕ) → digit_of Hex c ≡ o → StepGood w phase.HexEscape us c (hex_escape_byte o)
+pub hex_escape_good : (w : Context) (us : List ℕ) (c : ℕ) → Fine w phase.HexEscape us → (o : Option ℕ) → digit_of Hex c ≡ o
+    → StepGood w phase.HexEscape us c (hex_escape_byte o)
 hex_escape_good w us c (h, f) (Some d) q = (h, subst (λ z. IsHexEscape d (z ++ c ∷ [])) (sym f) (first_hex_digit q))
 hex_escape_good w us c (h, f) None q = bad w us (Some c) h (92 ∷ 120 ∷ [], f)
 
@@ -76,14 +79,16 @@ body w v us c h q =
 pub body_good : (w : Context) (v : ℕ) (us : List ℕ) (c : ℕ) → Fine w (phase.Body v) us → StepGood w (phase.Body v) us c (body_byte v c)
 body_good w v us c (h, q) = body w v us c h q
 
-pub octal_good : (w : Context) (n v : ℕ) (us : List ℕ) (c : ℕ) → Fine w (phase.OctalDigits n v) us → (o : Option ℕ) → digit_of Octal c ≡ o → StepGood w (phase.OctalDigits n v) us c (octal_byte n v c o)
+pub octal_good : (w : Context) (n v : ℕ) (us : List ℕ) (c : ℕ) → Fine w (phase.OctalDigits n v) us → (o : Option ℕ) → digit_of Octal c ≡ o
+    → StepGood w (phase.OctalDigits n v) us c (octal_byte n v c o)
 octal_good w n v us c (h, i) (Some d) q =
     choose (StepGood w (phase.OctalDigits n v) us c) (nat_lt n 3 && nat_lt (v * 8 + d) 256) _ _
     (λ e. let k = and_parts (nat_lt n 3) (nat_lt (v * 8 + d) 256) e in (h, next_octal c d i (ltb-true _ _ k.0) q (ltb-true _ _ k.1)))
     (λ _. bad w us (Some c) h (octal_opens i))
 octal_good w n v us c (h, i) None q = body w v us c h (octal_escape i)
 
-pub hex_good : (w : Context) (v : ℕ) (us : List ℕ) (c : ℕ) → Fine w (phase.HexDigits v) us → (o : Option ℕ) → digit_of Hex c ≡ o → StepGood w (phase.HexDigits v) us c (hex_byte v c o)
+pub hex_good : (w : Context) (v : ℕ) (us : List ℕ) (c : ℕ) → Fine w (phase.HexDigits v) us → (o : Option ℕ) → digit_of Hex c ≡ o
+    → StepGood w (phase.HexDigits v) us c (hex_byte v c o)
 hex_good w v us c (h, i) (Some d) q =
     choose (StepGood w (phase.HexDigits v) us c) (nat_lt (v * 16 + d) 256) _ _
     (λ e. (h, next_hex_digit c d i q (ltb-true _ _ e)))

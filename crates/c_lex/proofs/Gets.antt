@@ -9,7 +9,8 @@ use Rattle.list_laws.proofs.Elements.{onto}
 
 pub gets_run : {w : Context} (p : Place) {us : List ℕ} {ph : Phase} → Gets w us ph → (cs : List ℕ) → read (us ++ cs) w p ≡ run cs w p us ph
 gets_run {w} p (first_byte c e) cs = ap (λ x. entered x w p c cs (run cs)) e
-gets_run {w} p (next_byte {us} {ph} c g e) cs = ap (λ x. read x w p) (onto us c cs) ∙ gets_run p g (c ∷ cs) ∙ ap (λ x. follow x (close w ph us) w p us c cs (run cs)) e
+gets_run {w} p (next_byte {us} {ph} c g e) cs = ap (λ x. read x w p) (onto us c cs) ∙ gets_run p g (c ∷ cs) ∙ ap
+    (λ x. follow x (close w ph us) w p us c cs (run cs)) e
 
 -- the phase as a function of the bytes
 abbrev pub onward : Result (Option Phase) LexKind → List ℕ → (List ℕ → Phase → Option Phase) → List ℕ → Option Phase
@@ -40,7 +41,8 @@ gets_on : {w : Context} (cs us : List ℕ) (ph ph2 : Phase) → Gets w us ph →
 gets_on {w} [] us ph ph2 g e = let q : ph ≡ ph2 = cc in subst (λ z. Gets w z ph2) (sym (append-nil us)) (subst (Gets w us) q g)
 gets_on {w} (c ∷ cs) us ph ph2 g e = go (λ ph3 h k. gets_on cs (us ++ c ∷ []) ph3 ph2 h k) (step w ph us c) refl e
   where
-    go : ((ph3 : Phase) → Gets w (us ++ c ∷ []) ph3 → reach w cs (us ++ c ∷ []) ph3 ≡ Some ph2 → Gets w ((us ++ c ∷ []) ++ cs) ph2) → (x : Result (Option Phase) LexKind) → step w ph us c ≡ x → onward x us (reach w cs) (us ++ c ∷ []) ≡ Some ph2 → Gets w (us ++ c ∷ cs) ph2
+    go : ((ph3 : Phase) → Gets w (us ++ c ∷ []) ph3 → reach w cs (us ++ c ∷ []) ph3 ≡ Some ph2 → Gets w ((us ++ c ∷ []) ++ cs) ph2)
+        → (x : Result (Option Phase) LexKind) → step w ph us c ≡ x → onward x us (reach w cs) (us ++ c ∷ []) ≡ Some ph2 → Gets w (us ++ c ∷ cs) ph2
     go ih (Ok (Some ph3)) f k = subst (λ z. Gets w z ph2) (onto us c cs) (ih ph3 (next_byte c g f) k)
     go ih (Ok None) f k = cc
     go ih (Err x) f k = cc

@@ -4,7 +4,8 @@ use Rattle.c_tree.specs.declared.token.Punct.{Punct}
 use Rattle.c_tree.specs.declared.token.Punct.TheVariants as punct
 use Rattle.c_lex.specs.Spelling.{punct_spelling, punct_named}
 
-two : (x y : Punct) (a b : Bool) → ◌≡◌ {A = Option Punct} (if a then Some x else if b then Some y else None) (if a && true then Some x else if b && true then Some y else None)
+two : (x y : Punct) (a b : Bool)
+    → ◌≡◌ {A = Option Punct} (if a then Some x else if b then Some y else None) (if a && true then Some x else if b && true then Some y else None)
 two x y true b = refl
 two x y false true = refl
 two x y false false = refl
@@ -13,7 +14,9 @@ one : (x : Punct) (a : Bool) → ◌≡◌ {A = Option Punct} (if a then Some x 
 one x true = refl
 one x false = refl
 
-three : (x y z : Punct) (a b : Bool) → ◌≡◌ {A = Option Punct} (if a then Some x else if b then Some y else None) (if a && true then Some x else if b && true then Some y else if a && false then Some z else None)
+three : (x y z : Punct) (a b : Bool)
+    → ◌≡◌ {A = Option Punct} (if a then Some x else if b then Some y else None)
+    (if a && true then Some x else if b && true then Some y else if a && false then Some z else None)
 three x y z true b = refl
 three x y z false true = refl
 three x y z false false = refl
@@ -83,7 +86,9 @@ joined_is punct.ShiftLeftAssign c = refl
 joined_is punct.ShiftRightAssign c = refl
 
 -- no byte joins another punctuator
-pub no_join : (m : Punct) (c : ℕ) → (m ≡ punct.Plus → ⊥) → (m ≡ punct.Minus → ⊥) → (m ≡ punct.Star → ⊥) → (m ≡ punct.Slash → ⊥) → (m ≡ punct.Percent → ⊥) → (m ≡ punct.Ampersand → ⊥) → (m ≡ punct.Bar → ⊥) → (m ≡ punct.Caret → ⊥) → (m ≡ punct.Exclamation → ⊥) → (m ≡ punct.Less → ⊥) → (m ≡ punct.Greater → ⊥) → (m ≡ punct.Equals → ⊥) → (m ≡ punct.ShiftLeft → ⊥) → (m ≡ punct.ShiftRight → ⊥) → joins m c ≡ None
+pub no_join : (m : Punct) (c : ℕ) → (m ≡ punct.Plus → ⊥) → (m ≡ punct.Minus → ⊥) → (m ≡ punct.Star → ⊥) → (m ≡ punct.Slash → ⊥) → (m ≡ punct.Percent → ⊥)
+    → (m ≡ punct.Ampersand → ⊥) → (m ≡ punct.Bar → ⊥) → (m ≡ punct.Caret → ⊥) → (m ≡ punct.Exclamation → ⊥) → (m ≡ punct.Less → ⊥) → (m ≡ punct.Greater → ⊥)
+    → (m ≡ punct.Equals → ⊥) → (m ≡ punct.ShiftLeft → ⊥) → (m ≡ punct.ShiftRight → ⊥) → joins m c ≡ None
 no_join punct.Plus c n0 n1 n2 n3 n4 n5 n6 n7 n8 n9 n10 n11 n12 n13 = absurd (n0 refl)
 no_join punct.Minus c n0 n1 n2 n3 n4 n5 n6 n7 n8 n9 n10 n11 n12 n13 = absurd (n1 refl)
 no_join punct.Star c n0 n1 n2 n3 n4 n5 n6 n7 n8 n9 n10 n11 n12 n13 = absurd (n2 refl)

@@ -63,7 +63,8 @@ stop_end w p us ph k g h = record {
   cause = ending (us, refl, h, refl);
 }
 
-stop_here : (w : Context) (p : Place) (us : List ℕ) (ph : Phase) (c : ℕ) (cs : List ℕ) (k : LexKind) → Gets w us ph → Cause w us (Some c) k → ((r2 : List ℕ) → run (c ∷ r2) w p us ph ≡ Fault k (told_line k p us) (c ∷ r2)) → Stopped (c ∷ cs) w p us ph k (told_line k p us) (c ∷ cs)
+stop_here : (w : Context) (p : Place) (us : List ℕ) (ph : Phase) (c : ℕ) (cs : List ℕ) (k : LexKind) → Gets w us ph → Cause w us (Some c) k
+    → ((r2 : List ℕ) → run (c ∷ r2) w p us ph ≡ Fault k (told_line k p us) (c ∷ r2)) → Stopped (c ∷ cs) w p us ph k (told_line k p us) (c ∷ cs)
 stop_here w p us ph c cs k g h f = record {
   front = [];
   is = refl;
@@ -73,7 +74,8 @@ stop_here w p us ph c cs k g h f = record {
   cause = ending (us, refl, h, refl);
 }
 
-judge_end : (w : Context) (p : Place) (us : List ℕ) (ph : Phase) → Gets w us ph → (x : Result Piece LexKind) → close w ph us ≡ x → Judged [] w p us ph (finished x w p us)
+judge_end : (w : Context) (p : Place) (us : List ℕ) (ph : Phase) → Gets w us ph → (x : Result Piece LexKind) → close w ph us ≡ x
+    → Judged [] w p us ph (finished x w p us)
 judge_end w p us ph g (Err k) e = stop_end w p us ph k g (subst (CloseGood w us) e (close_good w ph us (fine g) g))
 judge_end w p us ph g (Ok x) e = last (may_end (after x w p us)) refl
   where
@@ -92,7 +94,8 @@ judge_end w p us ph g (Ok x) e = last (may_end (after x w p us)) refl
     }
 
 -- the byte goes on in the piece
-judge_on : (w : Context) (p : Place) (us : List ℕ) (ph ph2 : Phase) (c : ℕ) (cs : List ℕ) → step w ph us c ≡ Ok (Some ph2) → (x : Reading) → Judged cs w p (us ++ c ∷ []) ph2 x → Judged (c ∷ cs) w p us ph x
+judge_on : (w : Context) (p : Place) (us : List ℕ) (ph ph2 : Phase) (c : ℕ) (cs : List ℕ) → step w ph us c ≡ Ok (Some ph2) → (x : Reading)
+    → Judged cs w p (us ++ c ∷ []) ph2 x → Judged (c ∷ cs) w p us ph x
 judge_on w p us ph ph2 c cs e (Tokens ts) j = subst (λ z. Pieces AtEnd w p ts z) (onto us c cs) j
 judge_on w p us ph ph2 c cs e (Fault k line rest) j = record {
   front = c ∷ j.front;
@@ -104,7 +107,10 @@ judge_on w p us ph ph2 c cs e (Fault k line rest) j = record {
 }
 
 -- the byte begins the next piece
-judge_next : (w : Context) (p : Place) (us : List ℕ) (ph : Phase) (x : Piece) (c : ℕ) (cs : List ℕ) → Gets w us ph → step w ph us c ≡ Ok None → close w ph us ≡ Ok x → ((ph2 : Phase) → Gets (after x w p us) (c ∷ []) ph2 → Judged cs (after x w p us) (past p us) (c ∷ []) ph2 (run cs (after x w p us) (past p us) (c ∷ []) ph2)) → (y : Result Phase LexKind) → enter (after x w p us) c ≡ y → Judged (c ∷ cs) w p us ph (before (tokens_of x w p us) (entered y (after x w p us) (past p us) c cs (run cs)))
+judge_next : (w : Context) (p : Place) (us : List ℕ) (ph : Phase) (x : Piece) (c : ℕ) (cs : List ℕ) → Gets w us ph → step w ph us c ≡ Ok None
+    → close w ph us ≡ Ok x → ((ph2 : Phase) → Gets (after x w p us) (c ∷ []) ph2
+    → Judged cs (after x w p us) (past p us) (c ∷ []) ph2 (run cs (after x w p us) (past p us) (c ∷ []) ph2)) → (y : Result Phase LexKind)
+    → enter (after x w p us) c ≡ y → Judged (c ∷ cs) w p us ph (before (tokens_of x w p us) (entered y (after x w p us) (past p us) c cs (run cs)))
 judge_next w p us ph x c cs g e1 e2 ih y e3 = go y e3
   where
     is_piece : IsPiece w x us
@@ -116,24 +122,28 @@ judge_next w p us ph x c cs g e1 e2 ih y e3 = go y e3
     again : (r : List ℕ) → run (c ∷ r) w p us ph ≡ before (tokens_of x w p us) (entered (enter (after x w p us) c) (after x w p us) (past p us) c r (run r))
     again r = ap (λ z. follow z (close w ph us) w p us c r (run r)) e1 ∙ ap (λ z. closed z w p us c r (run r)) e2
 
-    inner : (ph2 : Phase) → enter (after x w p us) c ≡ Ok ph2 → (z : Reading) → Judged cs (after x w p us) (past p us) (c ∷ []) ph2 z → Judged (c ∷ cs) w p us ph (before (tokens_of x w p us) z)
+    inner : (ph2 : Phase) → enter (after x w p us) c ≡ Ok ph2 → (z : Reading) → Judged cs (after x w p us) (past p us) (c ∷ []) ph2 z
+        → Judged (c ∷ cs) w p us ph (before (tokens_of x w p us) z)
     inner ph2 h (Tokens ts) j = then_piece is_piece longest j
     inner ph2 h (Fault k line rest) j = record {
       front = c ∷ j.front;
       is = ap (λ z. c ∷ z) j.is;
       more = (tokens_of x w p us ++ j.more.0, j.more.1, then_piece is_piece longest j.more.2);
-      again = λ d r1 r2 q. again (j.front ++ d ∷ r2) ∙ ap (λ z. before (tokens_of x w p us) (entered z (after x w p us) (past p us) c (j.front ++ d ∷ r2) (run (j.front ++ d ∷ r2)))) h ∙ ap (before (tokens_of x w p us)) (j.again d r1 r2 q);
+      again = λ d r1 r2 q. again (j.front ++ d ∷ r2) ∙ ap (λ z. before (tokens_of x w p us)
+          (entered z (after x w p us) (past p us) c (j.front ++ d ∷ r2) (run (j.front ++ d ∷ r2)))) h ∙ ap (before (tokens_of x w p us)) (j.again d r1 r2 q);
       pieces = tokens_of x w p us ++ j.pieces;
       cause = then_piece is_piece longest j.cause;
     }
 
-    go : (y : Result Phase LexKind) → enter (after x w p us) c ≡ y → Judged (c ∷ cs) w p us ph (before (tokens_of x w p us) (entered y (after x w p us) (past p us) c cs (run cs)))
+    go : (y : Result Phase LexKind) → enter (after x w p us) c ≡ y
+        → Judged (c ∷ cs) w p us ph (before (tokens_of x w p us) (entered y (after x w p us) (past p us) c cs (run cs)))
     go (Ok ph2) h = inner ph2 h (run cs (after x w p us) (past p us) (c ∷ []) ph2) (ih ph2 (first_byte c h))
     go (Err k) h = record {
       front = [];
       is = refl;
       more = alive w p ph us (fine g);
-      again = λ d r1 r2 q. let s : c ≡ d = cc in subst (λ z. run (z ∷ r2) w p us ph ≡ Fault k (past p us).line (z ∷ r2)) s (again r2 ∙ ap (λ z. before (tokens_of x w p us) (entered z (after x w p us) (past p us) c r2 (run r2))) h);
+      again = λ d r1 r2 q. let s : c ≡ d = cc in subst (λ z. run (z ∷ r2) w p us ph ≡ Fault k (past p us).line (z ∷ r2)) s
+          (again r2 ∙ ap (λ z. before (tokens_of x w p us) (entered z (after x w p us) (past p us) c r2 (run r2))) h);
       pieces = tokens_of x w p us ++ [];
       cause = then_piece is_piece longest (ending ([], refl, subst (EnterGood (after x w p us) c) h (enter_good (after x w p us) c), told_here k (past p us)));
     }
@@ -147,9 +157,11 @@ judge (c ∷ cs) w p us ph g = go (λ w2 p2 us2 ph2 h. judge cs w2 p2 us2 ph2 h)
   where
     seam : Later cs → step w ph us c ≡ Ok None → (x : Result Piece LexKind) → close w ph us ≡ x → Judged (c ∷ cs) w p us ph (closed x w p us c cs (run cs))
     seam ih e (Ok x) e2 = judge_next w p us ph x c cs g e e2 (λ ph2 h. ih (after x w p us) (past p us) (c ∷ []) ph2 h) (enter (after x w p us) c) refl
-    seam ih e (Err k) e2 = stop_here w p us ph c cs k g (subst (SeamGood w us c) e2 (subst (StepGood w ph us c) e (step_good w ph us c (fine g) g))) (λ r. ap (λ z. follow z (close w ph us) w p us c r (run r)) e ∙ ap (λ z. closed z w p us c r (run r)) e2)
+    seam ih e (Err k) e2 = stop_here w p us ph c cs k g (subst (SeamGood w us c) e2 (subst (StepGood w ph us c) e (step_good w ph us c (fine g) g)))
+        (λ r. ap (λ z. follow z (close w ph us) w p us c r (run r)) e ∙ ap (λ z. closed z w p us c r (run r)) e2)
 
     go : Later cs → (y : Result (Option Phase) LexKind) → step w ph us c ≡ y → Judged (c ∷ cs) w p us ph (follow y (close w ph us) w p us c cs (run cs))
     go ih (Ok (Some ph2)) e = judge_on w p us ph ph2 c cs e (run cs w p (us ++ c ∷ []) ph2) (ih w p (us ++ c ∷ []) ph2 (next_byte c g e))
     go ih (Ok None) e = seam ih e (close w ph us) refl
-    go ih (Err k) e = stop_here w p us ph c cs k g (subst (StepGood w ph us c) e (step_good w ph us c (fine g) g)) (λ r. ap (λ z. follow z (close w ph us) w p us c r (run r)) e)
+    go ih (Err k) e = stop_here w p us ph c cs k g (subst (StepGood w ph us c) e (step_good w ph us c (fine g) g))
+        (λ r. ap (λ z. follow z (close w ph us) w p us c r (run r)) e)

@@ -22,7 +22,9 @@ use Rattle.c_lex.proofs.Spells.{spelled}
 use Rattle.c_lex.proofs.SpanLemmas.{fault_line}
 
 -- an open piece that ends here
-ends : (w : Context) (p : Place) (x : Piece) (us : List ℕ) (ph : Phase) (cs : List ℕ) → close w ph us ≡ Ok x → ((c : ℕ) → longer x us c ≡ false → step w ph us c ≡ Ok None) → IsLongest x us cs → run cs w p us ph ≡ before (tokens_of x w p us) (read cs (after x w p us) (past p us))
+ends : (w : Context) (p : Place) (x : Piece) (us : List ℕ) (ph : Phase) (cs : List ℕ) → close w ph us ≡ Ok x
+    → ((c : ℕ) → longer x us c ≡ false → step w ph us c ≡ Ok None) → IsLongest x us cs
+    → run cs w p us ph ≡ before (tokens_of x w p us) (read cs (after x w p us) (past p us))
 ends w p x us ph [] e f l = ap (λ z. finished z w p us) e
 ends w p x us ph (c ∷ cs) e f l = ap (λ z. follow z (close w ph us) w p us c cs (run cs)) (f c l) ∙ ap (λ z. closed z w p us c cs (run cs)) e
 
@@ -35,7 +37,9 @@ complete {w} {p} (then_piece {x} {us} {cs} i l r) =
 pub one_list : {ts us : List Token} {bs : List ℕ} → IsText ts bs → IsText us bs → ts ≡ us
 one_list {ts} {us} t u = let q : Tokens ts ≡ Tokens us = sym (complete t) ∙ complete u in cc
 
-fault_at : (bs front rest : List ℕ) (k : LexKind) (line : ℕ) (pieces : List Token) → bs ≡ front ++ rest → read bs Fresh start ≡ Fault k line rest → Continues front → ((c : ℕ) (r1 r2 : List ℕ) → rest ≡ c ∷ r1 → read (front ++ c ∷ r2) Fresh start ≡ Fault k line (c ∷ r2)) → Pieces (Breaks k line rest) Fresh start pieces bs → IsFault bs line k
+fault_at : (bs front rest : List ℕ) (k : LexKind) (line : ℕ) (pieces : List Token) → bs ≡ front ++ rest → read bs Fresh start ≡ Fault k line rest
+    → Continues front → ((c : ℕ) (r1 r2 : List ℕ) → rest ≡ c ∷ r1 → read (front ++ c ∷ r2) Fresh start ≡ Fault k line (c ∷ r2))
+    → Pieces (Breaks k line rest) Fresh start pieces bs → IsFault bs line k
 fault_at bs front rest k line pieces e f g h j = record {
   front = front;
   rest = rest;
@@ -54,7 +58,8 @@ abbrev pub Right : List ℕ → Reading → Type 0
 Right bs (Tokens ts) = IsText ts bs
 Right bs (Fault k line rest) = IsFault bs line k
 
-right_on : (c : ℕ) (cs : List ℕ) (ph : Phase) → enter Fresh c ≡ Ok ph → (x : Reading) → run cs Fresh start (c ∷ []) ph ≡ x → Judged cs Fresh start (c ∷ []) ph x → Right (c ∷ cs) x
+right_on : (c : ℕ) (cs : List ℕ) (ph : Phase) → enter Fresh c ≡ Ok ph → (x : Reading) → run cs Fresh start (c ∷ []) ph ≡ x → Judged cs Fresh start (c ∷ []) ph x
+    → Right (c ∷ cs) x
 right_on c cs ph e (Tokens ts) f j = j
 right_on c cs ph e (Fault k line rest) f j =
     let g : Gets Fresh (c ∷ []) ph = first_byte c e in

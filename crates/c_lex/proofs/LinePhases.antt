@@ -1,5 +1,6 @@
 -- Blanks, comments, directives and the first byte of each piece.
-use Rattle.std.proofs.Common.{ℕ, ◌≡◌, refl, sym, ◌∙◌, ap, subst, Bool, true, false, ◌==◌, ◌&&◌, not, List, [], ◌∷◌, ◌++◌, length, take, drop, append_assoc, Option, Some, None, Result, eqb-true, arith, lit≤, codes}
+use Rattle.std.proofs.Common.{ℕ, ◌≡◌, refl, sym, ◌∙◌, ap, subst, Bool, true, false, ◌==◌, ◌&&◌, not, List, [], ◌∷◌, ◌++◌, length, take, drop}
+use Rattle.std.proofs.Common.{append_assoc, Option, Some, None, Result, eqb-true, arith, lit≤, codes}
 use Rattle.c_tree.specs.declared.token.Header.{Header}
 use Rattle.c_tree.specs.declared.token.Header.TheVariants.{Stdio, Stdlib}
 use Rattle.c_tree.specs.declared.token.Punct.{Punct}
@@ -18,9 +19,11 @@ use Rattle.c_lex.specs.declared.fault.LexKind.{LexKind}
 use Rattle.c_lex.specs.declared.fault.LexKind.TheVariants.{BadByte, Directive, OpenComment, LeftOut}
 use Rattle.c_lex.specs.Bytes.{class_of, is_digit, digit_of, feeds}
 use Rattle.c_lex.specs.Spelling.{punct_spelling, puncts, punct_named, header_spelling, include_spelling, same}
-use Rattle.c_lex.specs.Pieces.{letter, first_decimal, has_close, is_code, may_end, IsPiece, blank, feed, comment, hash, include_word, header, marker, punctuator, longer}
+use Rattle.c_lex.specs.Pieces.{letter, first_decimal, has_close, is_code, may_end, IsPiece, blank, feed, comment, hash, include_word, header, marker}
+use Rattle.c_lex.specs.Pieces.{punctuator, longer}
 use Rattle.c_lex.specs.Text.{Cause, no_piece, quote, open_comment, directive, IsOpenComment}
-use Rattle.c_lex.specs.Machine.{sign, decimal, enter_code, enter_fresh, enter_hash, enter_include, enter_closed, enter, goes, stops, slash, comment_byte, spelled, header_byte, marker_byte, slash_piece}
+use Rattle.c_lex.specs.Machine.{sign, decimal, enter_code, enter_fresh, enter_hash, enter_include, enter_closed, enter, goes, stops, slash}
+use Rattle.c_lex.specs.Machine.{comment_byte, spelled, header_byte, marker_byte, slash_piece}
 use Rattle.std.proofs.lemmas.Bool.{and_parts, not-true}
 use Rattle.list_laws.proofs.Tests.{choose, and_false}
 use Rattle.list_laws.proofs.Elements.{onto}
@@ -76,7 +79,8 @@ enter_hash_good p c class.Feed e = (feed e refl, λ _. refl)
 enter_hash_good p c class.Slash e = ap (λ z. z ∷ []) (byte_of c class.Slash e)
 enter_hash_good p c class.Zero e = (p, refl, c, [], refl, ap is_digit e, refl)
 enter_hash_good p c class.Digit e = (p, refl, c, [], refl, ap is_digit e, refl)
-enter_hash_good p c class.Letter e = choose (EnterGood (Hash p) c) (c == 105) _ _ (λ h. (p, refl, 110, codes "clude", ap (λ z. z ∷ codes "nclude") (sym (eqb-true c 105 h)))) (λ _. directive_byte (Hash p) [] c refl)
+enter_hash_good p c class.Letter e = choose (EnterGood (Hash p) c) (c == 105) _ _
+    (λ h. (p, refl, 110, codes "clude", ap (λ z. z ∷ codes "nclude") (sym (eqb-true c 105 h)))) (λ _. directive_byte (Hash p) [] c refl)
 enter_hash_good p c class.Hash e = directive_byte (Hash p) [] c refl
 enter_hash_good p c class.Quote e = directive_byte (Hash p) [] c refl
 enter_hash_good p c class.Apostrophe e = directive_byte (Hash p) [] c refl
@@ -85,7 +89,8 @@ enter_hash_good p c class.Other e = directive_byte (Hash p) [] c refl
 enter_include_good : (p : Place) (c : ℕ) (k : Class) → class_of c ≡ k → EnterGood (Include p) c (enter_include k c)
 enter_include_good p c class.Blank e = (blank e, λ _. refl)
 enter_include_good p c class.Slash e = ap (λ z. z ∷ []) (byte_of c class.Slash e)
-enter_include_good p c class.Other e = choose (EnterGood (Include p) c) (c == 60) _ _ (λ h. (p, refl, 115, codes "tdio.h>", ap (λ z. z ∷ codes "stdio.h>") (sym (eqb-true c 60 h)))) (λ _. directive_byte (Include p) [] c refl)
+enter_include_good p c class.Other e = choose (EnterGood (Include p) c) (c == 60) _ _
+    (λ h. (p, refl, 115, codes "tdio.h>", ap (λ z. z ∷ codes "stdio.h>") (sym (eqb-true c 60 h)))) (λ _. directive_byte (Include p) [] c refl)
 enter_include_good p c class.Feed e = directive_byte (Include p) [] c refl
 enter_include_good p c class.Letter e = directive_byte (Include p) [] c refl
 enter_include_good p c class.Zero e = directive_byte (Include p) [] c refl
@@ -130,16 +135,25 @@ after_slash : (c : ℕ) → (c == 61) ≡ false → (c == 42) ≡ false → long
 unfolding punct_named
 after_slash c e f = rw (e, f) refl
 
-slash_code : (w : Context) (us : List ℕ) (c : ℕ) → us ≡ 47 ∷ [] → (c == 42) ≡ false → (is_code w && c == 61) ≡ false → (b : Bool) → is_code w ≡ b → SeamGood w us c (slash_piece b)
+slash_code : (w : Context) (us : List ℕ) (c : ℕ) → us ≡ 47 ∷ [] → (c == 42) ≡ false → (is_code w && c == 61) ≡ false → (b : Bool) → is_code w ≡ b
+    → SeamGood w us c (slash_piece b)
 slash_code w us c f n m true h = subst (λ z. longer (piece.Punct punct.Slash) z c ≡ false) (sym f) (after_slash c (and_false _ _ m h) n)
 slash_code w us c f n m false h = directive_byte w us c h
 
 pub slash_good : (w : Context) (us : List ℕ) (c : ℕ) → us ≡ 47 ∷ [] → StepGood w phase.Slash us c (slash w c)
 slash_good w us c f =
     choose (StepGood w phase.Slash us c) (c == 42) _ _
-    (λ e. ([], ap (λ z. z ++ c ∷ []) f ∙ ap (λ z. 47 ∷ z ∷ []) (eqb-true c 42 e), refl, refl, λ _. ap feeds (ap (λ z. z ++ c ∷ []) f ∙ ap (λ z. 47 ∷ z ∷ []) (eqb-true c 42 e))))
+    (λ e. (
+      [],
+      ap (λ z. z ++ c ∷ []) f ∙ ap (λ z. 47 ∷ z ∷ []) (eqb-true c 42 e),
+      refl,
+      refl,
+      λ _. ap feeds
+          (ap (λ z. z ++ c ∷ []) f ∙ ap (λ z. 47 ∷ z ∷ []) (eqb-true c 42 e)),
+    ))
     (λ n. choose (StepGood w phase.Slash us c) (is_code w && c == 61) _ _
-    (λ e. let k = and_parts (is_code w) (c == 61) e in let s : us ++ c ∷ [] ≡ 47 ∷ 61 ∷ [] = ap (λ z. z ++ c ∷ []) f ∙ ap (λ z. 47 ∷ z ∷ []) (eqb-true c 61 k.1) in (k.0, s, ap (λ z. same z (47 ∷ [])) s, 47, 61 ∷ [], s))
+    (λ e. let k = and_parts (is_code w) (c == 61) e in let s : us ++ c ∷ [] ≡ 47 ∷ 61 ∷ [] = ap (λ z. z ++ c ∷ []) f ∙ ap (λ z. 47 ∷ z ∷ []) (eqb-true c 61 k.1)
+    in (k.0, s, ap (λ z. same z (47 ∷ [])) s, 47, 61 ∷ [], s))
     (λ m. slash_code w us c f n m (is_code w) refl))
 
 slash_not_open : (us : List ℕ) → us ≡ 47 ∷ [] → IsOpenComment us → ⊥
@@ -150,26 +164,38 @@ slash_close w us f true h = subst (λ z. IsPiece w (piece.Punct punct.Slash) z) 
 slash_close w us f false h = directive h (λ _ o. slash_not_open us f o)
 
 -- in a comment
-pub comment_end : (w : Context) (us vs : List ℕ) → us ≡ 47 ∷ 42 ∷ vs → has_close vs ≡ false → ends_star vs ≡ true → (is_code w ≡ false → feeds us ≡ 0) → (c : ℕ) → c ≡ 47 → IsPiece w piece.Comment (us ++ c ∷ [])
+pub comment_end : (w : Context) (us vs : List ℕ) → us ≡ 47 ∷ 42 ∷ vs → has_close vs ≡ false → ends_star vs ≡ true → (is_code w ≡ false → feeds us ≡ 0) → (c : ℕ)
+    → c ≡ 47 → IsPiece w piece.Comment (us ++ c ∷ [])
 comment_end w us vs f h s n c e =
     let r = star_last vs s in
-    let a : us ++ c ∷ [] ≡ 47 ∷ 42 ∷ (r.0 ++ 42 ∷ 47 ∷ []) = ap (λ z. us ++ z ∷ []) e ∙ ap (λ z. z ++ 47 ∷ []) f ∙ ap (λ z. 47 ∷ 42 ∷ (z ++ 47 ∷ [])) r.1 ∙ ap (λ z. 47 ∷ 42 ∷ z) (append_assoc r.0 (42 ∷ []) (47 ∷ [])) in
+    let a : us ++ c ∷ [] ≡ 47 ∷ 42 ∷ (r.0 ++ 42 ∷ 47 ∷ []) = ap (λ z. us ++ z ∷ []) e ∙ ap (λ z. z ++ 47 ∷ []) f ∙ ap (λ z. 47 ∷ 42 ∷ (z ++ 47 ∷ [])) r.1 ∙ ap
+    (λ z. 47 ∷ 42 ∷ z) (append_assoc r.0 (42 ∷ []) (47 ∷ [])) in
     comment (r.0, a, subst (λ z. has_close z ≡ false) r.1 h) (λ q. feeds_keep us c (n q) (ap (λ z. z == 10) e))
 
-pub comment_good : (w : Context) (star : Bool) (us : List ℕ) (c : ℕ) → Fine w (phase.Comment star) us → StepGood w (phase.Comment star) us c (comment_byte w star c)
+pub comment_good : (w : Context) (star : Bool) (us : List ℕ) (c : ℕ) → Fine w (phase.Comment star) us
+    → StepGood w (phase.Comment star) us c (comment_byte w star c)
 comment_good w star us c (vs, f, h, s, n) =
     choose (StepGood w (phase.Comment star) us c) (star && c == 47) _ _
     (λ e. let k = and_parts star (c == 47) e in (comment_end w us vs f h (s ∙ k.0) n c (eqb-true c 47 k.1), λ _. refl))
     (λ m. choose (StepGood w (phase.Comment star) us c) (not (is_code w) && c == 10) _ _
     (λ e. directive_byte w us c (not-true _ (and_parts (not (is_code w)) (c == 10) e).0))
-    (λ q. (vs ++ c ∷ [], ap (λ z. z ++ c ∷ []) f, has_close_more vs c h (ap (λ z. z && c == 47) s ∙ m), ends_star_more vs c, λ r. feeds_keep us c (n r) (and_false _ _ q (ap not r)))))
+    (λ q. (
+      vs ++ c ∷ [],
+      ap (λ z. z ++ c ∷ []) f,
+      has_close_more vs c h (ap (λ z. z && c == 47) s ∙ m),
+      ends_star_more vs c,
+      λ r. feeds_keep us c (n r)
+          (and_false _ _ q (ap not r)),
+    )))
 
 pub dropped : (us vs : List ℕ) → drop (length us) (us ++ vs) ≡ vs
 dropped [] vs = refl
 dropped (a ∷ us) vs = dropped us vs
 
 -- a fixed word
-spelled_by : (P : Result (Option Phase) LexKind → Type 0) (x : Piece) (ph : Phase) (word us : List ℕ) (d : ℕ) (rest : List ℕ) (c : ℕ) → word ≡ us ++ d ∷ rest → (word ≡ us ++ c ∷ [] → P (goes (phase.Whole x))) → ((e : ℕ) (r : List ℕ) → word ≡ (us ++ c ∷ []) ++ e ∷ r → P (goes ph)) → P stops → P (spelled x ph (drop (length us) word) c)
+spelled_by : (P : Result (Option Phase) LexKind → Type 0) (x : Piece) (ph : Phase) (word us : List ℕ) (d : ℕ) (rest : List ℕ) (c : ℕ) → word ≡ us ++ d ∷ rest
+    → (word ≡ us ++ c ∷ [] → P (goes (phase.Whole x))) → ((e : ℕ) (r : List ℕ) → word ≡ (us ++ c ∷ []) ++ e ∷ r → P (goes ph)) → P stops
+    → P (spelled x ph (drop (length us) word) c)
 spelled_by P x ph word us d rest c w f g s = subst (λ z. P (spelled x ph z c)) (sym left) (go rest w)
   where
     left : drop (length us) word ≡ d ∷ rest
@@ -179,14 +205,16 @@ spelled_by P x ph word us d rest c w f g s = subst (λ z. P (spelled x ph z c)) 
     go [] h = choose P (c == d) _ _ (λ e. f (h ∙ ap (λ z. us ++ z ∷ []) (sym (eqb-true c d e)))) (λ _. s)
     go (a ∷ r) h = choose P (c == d) _ _ (λ e. g a r (h ∙ ap (λ z. us ++ z ∷ a ∷ r) (sym (eqb-true c d e)) ∙ sym (onto us c (a ∷ r)))) (λ _. s)
 
-pub include_good : (w : Context) (us : List ℕ) (c : ℕ) → Fine w phase.IncludeWord us → StepGood w phase.IncludeWord us c (spelled piece.IncludeWord phase.IncludeWord (drop (length us) include_spelling) c)
+pub include_good : (w : Context) (us : List ℕ) (c : ℕ) → Fine w phase.IncludeWord us
+    → StepGood w phase.IncludeWord us c (spelled piece.IncludeWord phase.IncludeWord (drop (length us) include_spelling) c)
 include_good w us c (p, e, d, rest, h) =
     spelled_by (StepGood w phase.IncludeWord us c) piece.IncludeWord phase.IncludeWord include_spelling us d rest c h
     (λ s. (subst (λ z. IsPiece w piece.IncludeWord z) s (subst (λ z. IsPiece z piece.IncludeWord include_spelling) (sym e) include_word), λ _. refl))
     (λ a r s. (p, e, a, r, s))
     (directive_byte w us c (ap is_code e))
 
-header_spelled : (w : Context) (h : Header) (us : List ℕ) (c : ℕ) → Fine w (phase.HeaderName h) us → StepGood w (phase.HeaderName h) us c (spelled (piece.HeaderName h) (phase.HeaderName h) (drop (length us) (header_spelling h)) c)
+header_spelled : (w : Context) (h : Header) (us : List ℕ) (c : ℕ) → Fine w (phase.HeaderName h) us
+    → StepGood w (phase.HeaderName h) us c (spelled (piece.HeaderName h) (phase.HeaderName h) (drop (length us) (header_spelling h)) c)
 header_spelled w k us c (p, e, d, rest, h) =
     spelled_by (StepGood w (phase.HeaderName k) us c) (piece.HeaderName k) (phase.HeaderName k) (header_spelling k) us d rest c h
     (λ s. (subst (λ z. IsPiece w (piece.HeaderName k) z) s (subst (λ z. IsPiece z (piece.HeaderName k) (header_spelling k)) (sym e) (header k)), λ _. refl))
@@ -197,13 +225,21 @@ pub taken : (us vs : List ℕ) → take (length us) (us ++ vs) ≡ us
 taken [] vs = refl
 taken (a ∷ us) vs = ap (λ z. a ∷ z) (taken us vs)
 
-pub header_good : (w : Context) (h : Header) (us : List ℕ) (c : ℕ) → Fine w (phase.HeaderName h) us → StepGood w (phase.HeaderName h) us c (header_byte h (length us) c)
+pub header_good : (w : Context) (h : Header) (us : List ℕ) (c : ℕ) → Fine w (phase.HeaderName h) us
+    → StepGood w (phase.HeaderName h) us c (header_byte h (length us) c)
 header_good w Stdlib us c f = header_spelled w Stdlib us c f
 header_good w Stdio us c f =
     choose (StepGood w (phase.HeaderName Stdio) us c) (length us == 4 && c == 108) _ _
     (λ e. let k = and_parts (length us == 4) (c == 108) e in
-    let s : us ≡ codes "<std" = sym (taken us (f.2 ∷ f.3)) ∙ ap (take (length us)) (sym f.4) ∙ ap (λ z. take z (codes "<stdio.h>")) (eqb-true (length us) 4 k.0) in
-    (f.0, f.1, 105, codes "b.h>", ap (λ z. (z ++ 108 ∷ []) ++ 105 ∷ codes "b.h>") (sym s) ∙ ap (λ z. (us ++ z ∷ []) ++ 105 ∷ codes "b.h>") (sym (eqb-true c 108 k.1))))
+    let s : us ≡ codes "<std" = sym (taken us (f.2 ∷ f.3)) ∙ ap (take (length us)) (sym f.4) ∙ ap (λ z. take z (codes "<stdio.h>")) (eqb-true (length us) 4 k.0)
+    in (
+      f.0,
+      f.1,
+      105,
+      codes "b.h>",
+      ap (λ z. (z ++ 108 ∷ []) ++ 105 ∷ codes "b.h>") (sym s) ∙ ap (λ z. (us ++ z ∷ []) ++ 105 ∷ codes "b.h>")
+          (sym (eqb-true c 108 k.1)),
+    ))
     (λ _. header_spelled w Stdio us c f)
 
 pub marker_good : (w : Context) (us : List ℕ) (c : ℕ) → Fine w phase.Marker us → StepGood w phase.Marker us c (marker_byte c)

@@ -1,5 +1,6 @@
 -- Each phase can go on to a text.
-use Rattle.std.proofs.Common.{ℕ, ◌≡◌, ◌≤◌, refl, sym, ap, subst, Bool, true, false, ◌&&◌, ◌||◌, List, [], ◌∷◌, ◌++◌, append_assoc, length, Option, Some, None, codes, lit≤}
+use Rattle.std.proofs.Common.{ℕ, ◌≡◌, ◌≤◌, refl, sym, ap, subst, Bool, true, false, ◌&&◌, ◌||◌, List, [], ◌∷◌, ◌++◌, append_assoc, length, Option, Some}
+use Rattle.std.proofs.Common.{None, codes, lit≤}
 use Rattle.c_tree.specs.declared.token.Token.{Token}
 use Rattle.c_tree.specs.declared.token.Header.TheVariants.{Stdio}
 use Rattle.c_tree.specs.declared.token.Reserved.{Reserved}
@@ -14,7 +15,9 @@ use Rattle.c_lex.specs.declared.phase.Phase.{Phase}
 use Rattle.c_lex.specs.declared.phase.Phase.TheVariants as phase
 use Rattle.c_lex.specs.Bytes.{class_of, in_word, digit_of, feeds}
 use Rattle.c_lex.specs.Spelling.{same, any_same, left_out_words, word_named, is_left_out, header_spelling, include_spelling}
-use Rattle.c_lex.specs.Pieces.{is_code, may_end, IsPiece, IsLongest, longer, IsIdentifier, longer_name, name, word, number, plain, header, include_word, character, IsQuoted, plain_byte, simple_escape, hex_escape, first_hex_digit, octal_escape, first_hex, zero_digit, integer_type, IsDigits}
+use Rattle.c_lex.specs.Pieces.{is_code, may_end, IsPiece, IsLongest, longer, IsIdentifier, longer_name, name, word, number, plain, header, include_word}
+use Rattle.c_lex.specs.Pieces.{character, IsQuoted, plain_byte, simple_escape, hex_escape, first_hex_digit, octal_escape, first_hex, zero_digit}
+use Rattle.c_lex.specs.Pieces.{integer_type, IsDigits}
 use Rattle.c_lex.specs.Text.{past, after, tokens_of, Pieces, ending, then_piece, AtEnd}
 use Rattle.c_lex.proofs.Fine.{ends_star, Fine, Alive}
 use Rattle.c_lex.proofs.ByteLemmas.{same_eq, has_close_more, ends_star_more, feeds_keep}
@@ -51,10 +54,12 @@ and_no false = refl
 comment_lives : (w : Context) (p : Place) (star : Bool) (us : List ℕ) → Fine w (phase.Comment star) us → Alive w p us
 comment_lives w p star us (vs, f, h, s, n) =
     more w p us (42 ∷ []) (more w p (us ++ 42 ∷ []) (47 ∷ []) (whole w p piece.Comment ((us ++ 42 ∷ []) ++ 47 ∷ [])
-    (line.comment_end w (us ++ 42 ∷ []) (vs ++ 42 ∷ []) (ap (λ z. z ++ 42 ∷ []) f) (has_close_more vs 42 h (and_no (ends_star vs))) (ends_star_more vs 42) (λ q. feeds_keep us 42 (n q) refl) 47 refl) (λ _. refl)))
+    (line.comment_end w (us ++ 42 ∷ []) (vs ++ 42 ∷ []) (ap (λ z. z ++ 42 ∷ []) f) (has_close_more vs 42 h (and_no (ends_star vs))) (ends_star_more vs 42)
+    (λ q. feeds_keep us 42 (n q) refl) 47 refl) (λ _. refl)))
 
 slash_lives : (w : Context) (p : Place) (us : List ℕ) → us ≡ 47 ∷ [] → Alive w p us
-slash_lives w p us f = more w p us (42 ∷ []) (comment_lives w p false (us ++ 42 ∷ []) ([], ap (λ z. z ++ 42 ∷ []) f, refl, refl, λ _. ap (λ z. feeds (z ++ 42 ∷ [])) f))
+slash_lives w p us f = more w p us (42 ∷ []) (comment_lives w p false (us ++ 42 ∷ [])
+    ([], ap (λ z. z ++ 42 ∷ []) f, refl, refl, λ _. ap (λ z. feeds (z ++ 42 ∷ [])) f))
 
 -- behind a word that is left out an `x` makes a name of it
 abbrev Freed : List ℕ → Type 0
@@ -106,7 +111,13 @@ find_freed (v ∷ vs) us f e = go (λ h. find_freed vs us f.1 h) (same us v) ref
 
 freed : (us : List ℕ) → is_left_out us ≡ true → Freed us
 unfolding is_left_out
-freed us e = find_freed left_out_words us (freed_double, (freed_float, (freed_goto, (freed_sizeof, (freed_struct, (freed_typedef, (freed_union, (freed_volatile, tt)))))))) e
+freed us e = find_freed left_out_words us (
+  freed_double,
+  (
+    freed_float,
+    (freed_goto, (freed_sizeof, (freed_struct, (freed_typedef, (freed_union, (freed_volatile, tt)))))),
+  ),
+) e
 
 class_x : in_word (class_of 120) ≡ true
 unfolding class_of
@@ -116,9 +127,11 @@ zero_hex : digit_of Hex 48 ≡ Some 0
 unfolding class_of
 zero_hex = refl
 
-name_lives : (w : Context) (p : Place) (us : List ℕ) → is_code w ≡ true → IsIdentifier us → length us ≤ 255 → (o : Option Reserved) → word_named us ≡ o → (b : Bool) → is_left_out us ≡ b → Alive w p us
+name_lives : (w : Context) (p : Place) (us : List ℕ) → is_code w ≡ true → IsIdentifier us → length us ≤ 255 → (o : Option Reserved) → word_named us ≡ o
+    → (b : Bool) → is_left_out us ≡ b → Alive w p us
 name_lives w p us h i le (Some r) e b l = last w p (piece.Word r) us (subst (λ z. IsPiece w (piece.Word r) z) (sym (names.word_spells us r e)) (word h r)) refl
-name_lives w p us h i le None e true l = let f = freed us l in more w p us (120 ∷ []) (last w p piece.Name (us ++ 120 ∷ []) (name h (longer_name 120 i class_x) f.2 f.0 f.1) refl)
+name_lives w p us h i le None e true l = let f = freed us l in more w p us (120 ∷ [])
+    (last w p piece.Name (us ++ 120 ∷ []) (name h (longer_name 120 i class_x) f.2 f.0 f.1) refl)
 name_lives w p us h i le None e false l = last w p piece.Name us (name h i le e l) refl
 
 number_lives : (w : Context) (p : Place) (b : Base) (v : ℕ) (us : List ℕ) → is_code w ≡ true → IsDigits b v us → Alive w p us
@@ -134,15 +147,23 @@ living w p (phase.Comment star) us f = comment_lives w p star us f
 living w p phase.Name us f = name_lives w p us f.0 f.1 f.2 (word_named us) refl (is_left_out us) refl
 living w p phase.Zero us f = number_lives w p Octal 0 us f.0 (subst (IsDigits Octal 0) (sym f.2) (zero_digit f.3))
 living w p (phase.Digits b v) us f = number_lives w p b v us f.0 f.1
-living w p phase.HexMark us f = more w p us (48 ∷ []) (number_lives w p Hex 0 (us ++ 48 ∷ []) f.0 (subst (λ z. IsDigits Hex 0 (z ++ 48 ∷ [])) (sym f.3) (first_hex f.4 f.5 zero_hex)))
+living w p phase.HexMark us f = more w p us (48 ∷ []) (number_lives w p Hex 0 (us ++ 48 ∷ []) f.0
+    (subst (λ z. IsDigits Hex 0 (z ++ 48 ∷ [])) (sym f.3) (first_hex f.4 f.5 zero_hex)))
 living w p (phase.Suffix b v u l) us f = last w p (piece.Number v (integer_type b u l v)) us (number f.0 f.1) refl
-living w p phase.Quote us f = more w p us (97 ∷ []) (quoted_lives w p 97 (us ++ 97 ∷ []) f.0 (subst (λ z. IsQuoted 97 (z ++ 97 ∷ [])) (sym f.1) (plain_byte refl)))
-living w p phase.Escape us f = more w p us (110 ∷ []) (quoted_lives w p 10 (us ++ 110 ∷ []) f.0 (subst (λ z. IsQuoted 10 (z ++ 110 ∷ [])) (sym f.1) (simple_escape refl)))
-living w p phase.HexEscape us f = more w p us (48 ∷ []) (quoted_lives w p 0 (us ++ 48 ∷ []) f.0 (subst (λ z. IsQuoted 0 (z ++ 48 ∷ [])) (sym f.1) (hex_escape (first_hex_digit zero_hex))))
+living w p phase.Quote us f = more w p us (97 ∷ []) (quoted_lives w p 97 (us ++ 97 ∷ []) f.0
+    (subst (λ z. IsQuoted 97 (z ++ 97 ∷ [])) (sym f.1) (plain_byte refl)))
+living w p phase.Escape us f = more w p us (110 ∷ []) (quoted_lives w p 10 (us ++ 110 ∷ []) f.0
+    (subst (λ z. IsQuoted 10 (z ++ 110 ∷ [])) (sym f.1) (simple_escape refl)))
+living w p phase.HexEscape us f = more w p us (48 ∷ []) (quoted_lives w p 0 (us ++ 48 ∷ []) f.0
+    (subst (λ z. IsQuoted 0 (z ++ 48 ∷ [])) (sym f.1) (hex_escape (first_hex_digit zero_hex))))
 living w p (phase.OctalDigits n v) us f = quoted_lives w p v us f.0 (octal_escape f.1)
 living w p (phase.HexDigits v) us f = quoted_lives w p v us f.0 (hex_escape f.1)
 living w p (phase.Body v) us f = quoted_lives w p v us f.0 f.1
 living w p (phase.Punct m) us f = last w p (piece.Punct m) us (names.sign_close w m us f) refl
-living w p phase.IncludeWord us (q, e, d, rest, h) = more w p us (d ∷ rest) (whole w p piece.IncludeWord (us ++ d ∷ rest) (subst (λ z. IsPiece w piece.IncludeWord z) h (subst (λ z. IsPiece z piece.IncludeWord include_spelling) (sym e) include_word)) (λ _. refl))
-living w p (phase.HeaderName k) us (q, e, d, rest, h) = more w p us (d ∷ rest) (whole w p (piece.HeaderName k) (us ++ d ∷ rest) (subst (λ z. IsPiece w (piece.HeaderName k) z) h (subst (λ z. IsPiece z (piece.HeaderName k) (header_spelling k)) (sym e) (header k))) (λ _. refl))
+living w p phase.IncludeWord us (q, e, d, rest, h) = more w p us (d ∷ rest)
+    (whole w p piece.IncludeWord (us ++ d ∷ rest) (subst (λ z. IsPiece w piece.IncludeWord z) h
+    (subst (λ z. IsPiece z piece.IncludeWord include_spelling) (sym e) include_word)) (λ _. refl))
+living w p (phase.HeaderName k) us (q, e, d, rest, h) = more w p us (d ∷ rest)
+    (whole w p (piece.HeaderName k) (us ++ d ∷ rest) (subst (λ z. IsPiece w (piece.HeaderName k) z) h
+    (subst (λ z. IsPiece z (piece.HeaderName k) (header_spelling k)) (sym e) (header k))) (λ _. refl))
 living w p phase.Marker us f = last w p piece.Marker us (line.marker_close w us f) refl

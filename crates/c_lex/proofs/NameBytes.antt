@@ -8,7 +8,8 @@ use Rattle.c_lex.specs.declared.phase.Context.{Context}
 use Rattle.c_lex.specs.declared.phase.Piece.{Piece}
 use Rattle.c_lex.specs.declared.phase.Piece.TheVariants as piece
 use Rattle.c_lex.specs.Bytes.{between, class_of, in_word}
-use Rattle.c_lex.specs.Pieces.{IsIdentifier, letter, longer_name, IsPiece, blank, feed, comment, hash, include_word, header, marker, name, word, number, character, punctuator}
+use Rattle.c_lex.specs.Pieces.{IsIdentifier, letter, longer_name, IsPiece, blank, feed, comment, hash, include_word, header, marker, name, word, number}
+use Rattle.c_lex.specs.Pieces.{character, punctuator}
 use Rattle.std.proofs.lemmas.Bool.{eqb-true, leb-true, le-leb, and_parts, and_from}
 use Rattle.list_laws.proofs.Tests.{choose}
 
@@ -31,10 +32,13 @@ at_byte c a e h = subst (λ z. is_name_byte z ≡ true) (sym (eqb-true c a e)) h
 fits : (c : ℕ) → Fits c (class_of c)
 unfolding class_of
 fits c =
-    choose (Fits c) (c == 32) _ _ (λ _. tt) (λ _. choose (Fits c) (c == 9) _ _ (λ _. tt) (λ _. choose (Fits c) (c == 11) _ _ (λ _. tt) (λ _. choose (Fits c) (c == 12) _ _ (λ _. tt)
+    choose (Fits c) (c == 32) _ _ (λ _. tt) (λ _. choose (Fits c) (c == 9) _ _ (λ _. tt)
+    (λ _. choose (Fits c) (c == 11) _ _ (λ _. tt) (λ _. choose (Fits c) (c == 12) _ _ (λ _. tt)
     (λ _. choose (Fits c) (c == 13) _ _ (λ _. tt) (λ _. choose (Fits c) (c == 10) _ _ (λ _. tt)
-    (λ _. choose (Fits c) (between 97 122 c) _ _ (λ e. or_right _ _ (or_left _ _ e)) (λ _. choose (Fits c) (between 65 90 c) _ _ (λ e. or_left _ _ e) (λ _. choose (Fits c) (c == 95) _ _ (λ e. at_byte c 95 e refl)
-    (λ _. choose (Fits c) (c == 48) _ _ (λ e. at_byte c 48 e refl) (λ _. choose (Fits c) (between 49 57 c) _ _ (λ e. or_right _ _ (or_right _ _ (or_left _ _ (digit e))))
+    (λ _. choose (Fits c) (between 97 122 c) _ _ (λ e. or_right _ _ (or_left _ _ e))
+    (λ _. choose (Fits c) (between 65 90 c) _ _ (λ e. or_left _ _ e) (λ _. choose (Fits c) (c == 95) _ _ (λ e. at_byte c 95 e refl)
+    (λ _. choose (Fits c) (c == 48) _ _ (λ e. at_byte c 48 e refl)
+    (λ _. choose (Fits c) (between 49 57 c) _ _ (λ e. or_right _ _ (or_right _ _ (or_left _ _ (digit e))))
     (λ _. choose (Fits c) (c == 35) _ _ (λ _. tt) (λ _. choose (Fits c) (c == 34) _ _ (λ _. tt) (λ _. choose (Fits c) (c == 39) _ _ (λ _. tt)
     (λ _. choose (Fits c) (c == 47) _ _ (λ _. tt) (λ _. tt)))))))))))))))
   where
@@ -56,8 +60,11 @@ fits_word c class.Other e h = cc
 identifier_name : {us : List ℕ} → IsIdentifier us → IsName us
 identifier_name (letter {c} e) = (omega arith, and_from _ _ (fits_word c class.Letter e refl) refl)
 identifier_name (longer_name {us} c i h) =
-    let r = identifier_name i in
-    (omega (arith, length-append us (c ∷ [])), list_all-append is_name_byte us (c ∷ []) ∙ and_from _ _ r.1 (and_from _ _ (fits_word c (class_of c) refl h) refl))
+    let r = identifier_name i in (
+      omega (arith, length-append us (c ∷ [])),
+      list_all-append is_name_byte us (c ∷ []) ∙ and_from _ _ r.1
+          (and_from _ _ (fits_word c (class_of c) refl h) refl),
+    )
 
 pub name_bytes : (w : Context) (x : Piece) (us : List ℕ) → IsPiece w x us → x ≡ piece.Name → IsName us
 name_bytes w x us (name h i l n o) e = identifier_name i

@@ -1,5 +1,7 @@
 -- The machine takes each piece, and ends it where it is the longest.
-use Rattle.std.proofs.Common.{ℕ, ◌≡◌, ◌+◌, ◌*◌, ◌<◌, ◌≤◌, refl, sym, ◌∙◌, ap, subst, Bool, true, false, nat_lt, ◌==◌, ◌&&◌, ◌||◌, not, if◌then◌else◌, List, [], ◌∷◌, ◌++◌, append_assoc, append-nil, length, length-append, Option, Some, None, is_some, Ok, eqb-true, arith, ◌⊎◌, inl, inr}
+use Rattle.std.proofs.Common.{ℕ, ◌≡◌, ◌+◌, ◌*◌, ◌<◌, ◌≤◌, refl, sym, ◌∙◌, ap, subst, Bool, true, false, nat_lt, ◌==◌, ◌&&◌, ◌||◌, not, if◌then◌else◌}
+use Rattle.std.proofs.Common.{List, [], ◌∷◌, ◌++◌, append_assoc, append-nil, length, length-append, Option, Some, None, is_some, Ok, eqb-true, arith}
+use Rattle.std.proofs.Common.{◌⊎◌, inl, inr}
 use Rattle.std.proofs.lemmas.Bool.{lt-ltb}
 use Rattle.c_tree.specs.declared.token.Header.{Header}
 use Rattle.c_tree.specs.declared.token.Header.TheVariants.{Stdio, Stdlib}
@@ -20,8 +22,13 @@ use Rattle.c_lex.specs.declared.phase.Phase.{Phase}
 use Rattle.c_lex.specs.declared.phase.Phase.TheVariants as phase
 use Rattle.c_lex.specs.Bytes.{class_of, is_digit, in_run, digit_of, is_u, is_l, feeds}
 use Rattle.c_lex.specs.Spelling.{word_spelling, word_named, is_left_out, punct_spelling, punct_named, same, header_spelling, include_spelling}
-use Rattle.c_lex.specs.Pieces.{IsIdentifier, letter, longer_name, IsInteger, plain, with_u, with_l, integer_type, escape_of, IsOctalEscape, first_octal, next_octal, IsHexEscape, first_hex_digit, next_hex_digit, is_plain, IsQuoted, plain_byte, simple_escape, octal_escape, hex_escape, has_close, IsComment, is_code, may_end, IsPiece, blank, feed, comment, hash, include_word, header, marker, name, word, number, character, punctuator, longer}
-use Rattle.c_lex.specs.Machine.{tail_of, enter_code, enter_fresh, enter_hash, enter_include, enter_closed, enter, goes, stops, slash, comment_byte, suffix, digit_byte, quote_byte, simple, octal_or_simple, hex_escape_byte, octal_byte, hex_byte, sign_byte, step, name_piece, slash_piece, close}
+use Rattle.c_lex.specs.Pieces.{IsIdentifier, letter, longer_name, IsInteger, plain, with_u, with_l, integer_type, escape_of, IsOctalEscape, first_octal}
+use Rattle.c_lex.specs.Pieces.{next_octal, IsHexEscape, first_hex_digit, next_hex_digit, is_plain, IsQuoted, plain_byte, simple_escape, octal_escape}
+use Rattle.c_lex.specs.Pieces.{hex_escape, has_close, IsComment, is_code, may_end, IsPiece, blank, feed, comment, hash, include_word, header, marker}
+use Rattle.c_lex.specs.Pieces.{name, word, number, character, punctuator, longer}
+use Rattle.c_lex.specs.Machine.{tail_of, enter_code, enter_fresh, enter_hash, enter_include, enter_closed, enter, goes, stops, slash, comment_byte}
+use Rattle.c_lex.specs.Machine.{suffix, digit_byte, quote_byte, simple, octal_or_simple, hex_escape_byte, octal_byte, hex_byte, sign_byte, step}
+use Rattle.c_lex.specs.Machine.{name_piece, slash_piece, close}
 use Rattle.std.proofs.lemmas.Bool.{or_parts, not-true, not-false}
 use Rattle.list_laws.proofs.Tests.{choose, if_true, if_false}
 use Rattle.list_laws.proofs.Elements.{onto}
@@ -93,7 +100,8 @@ commented w = by_end (Commented w)
     (λ _ _. next_byte {us = 47 ∷ []} {ph = phase.Slash} 42 (first_byte 47 (enter_slash w)) refl)
     (λ us c ih h n. let k = has_close_front us c h in
     subst (λ z. Gets w (47 ∷ 42 ∷ (us ++ c ∷ [])) (phase.Comment z)) (sym (ends_star_more us c))
-    (next_byte {us = 47 ∷ 42 ∷ us} c (ih k.0 (λ q. (feeds_front us (c ∷ []) (n q)).0)) (if_false _ _ k.1 ∙ if_false _ _ (not_ended w c (λ q. (feeds_front us (c ∷ []) (n q)).1)))))
+    (next_byte {us = 47 ∷ 42 ∷ us} c (ih k.0 (λ q. (feeds_front us (c ∷ []) (n q)).0))
+    (if_false _ _ k.1 ∙ if_false _ _ (not_ended w c (λ q. (feeds_front us (c ∷ []) (n q)).1)))))
 
 comment_spelled : (w : Context) (us : List ℕ) → IsComment us → (is_code w ≡ false → feeds us ≡ 0) → Spelled w piece.Comment us
 comment_spelled w us (body, e, h) n = whole (subst (λ z. Gets w z (phase.Whole piece.Comment)) (sym all)
@@ -131,10 +139,17 @@ enter_marker p c class.Other e d = cc
 
 marked : (w : Context) (cs us : List ℕ) → Gets w us phase.Marker → feeds cs ≡ 0 → Gets w (us ++ cs) phase.Marker
 marked w [] us g n = subst (λ z. Gets w z phase.Marker) (sym (append-nil us)) g
-marked w (c ∷ cs) us g n = let k = feeds_front (c ∷ []) cs n in subst (λ z. Gets w z phase.Marker) (onto us c cs) (marked w cs (us ++ c ∷ []) (next_byte c g (if_false _ _ (no_feed c k.0))) k.1)
+marked w (c ∷ cs) us g n = let k = feeds_front (c ∷ []) cs n in subst (λ z. Gets w z phase.Marker) (onto us c cs)
+    (marked w cs (us ++ c ∷ []) (next_byte c g (if_false _ _ (no_feed c k.0))) k.1)
 
 marker_spelled : (p : Place) (c : ℕ) (us : List ℕ) → is_digit (class_of c) ≡ true → feeds us ≡ 0 → Spelled (Hash p) piece.Marker (c ∷ us)
-marker_spelled p c us d n = (phase.Marker, marked (Hash p) us (c ∷ []) (first_byte c (enter_marker p c (class_of c) refl d)) n, refl, λ a h. if_true _ _ (not-false _ h))
+marker_spelled p c us d n = (
+  phase.Marker,
+  marked (Hash p) us (c ∷ []) (first_byte c (enter_marker p c (class_of c) refl d)) n,
+  refl,
+  λ a h. if_true _ _
+      (not-false _ h),
+)
 
 identified : (w : Context) {us : List ℕ} → is_code w ≡ true → IsIdentifier us → length us ≤ 255 → Gets w us phase.Name
 identified w h (letter {c} e) l = first_byte c (enters w c class.Letter h e (λ z. cc))
@@ -142,7 +157,8 @@ identified w h (longer_name {us} c i e) l =
     let k : length us < 255 = omega (arith, l, length-append us (c ∷ [])) in
     next_byte c (identified w h i (omega (arith, k))) (if_true _ _ e ∙ if_true _ _ (lt-ltb _ _ k))
 
-name_spelled : (w : Context) (us : List ℕ) → is_code w ≡ true → IsIdentifier us → length us ≤ 255 → word_named us ≡ None → is_left_out us ≡ false → Spelled w piece.Name us
+name_spelled : (w : Context) (us : List ℕ) → is_code w ≡ true → IsIdentifier us → length us ≤ 255 → word_named us ≡ None → is_left_out us ≡ false
+    → Spelled w piece.Name us
 name_spelled w us h i l n o = (phase.Name, identified w h i l, ap (λ z. name_piece z (is_left_out us)) n ∙ ap (name_piece None) o, λ c e. if_false _ _ e)
 
 word_spelled : (w : Context) (r : Reserved) → is_code w ≡ true → Spelled w (piece.Word r) (word_spelling r)
@@ -160,13 +176,17 @@ data IntegerAt : Base → ℕ → Bool → Bool → Phase → Type 0 where
   in_digits : {b : Base} {v : ℕ} {ph : Phase} → DigitsAt b v ph → IntegerAt b v false false ph
   in_suffix : {b : Base} {v : ℕ} {u l : Bool} → IntegerAt b v u l (phase.Suffix b v u l)
 
-take_u : (w : Context) (us : List ℕ) (c : ℕ) {b : Base} {v : ℕ} {l : Bool} {ph : Phase} → is_u c ≡ true → IntegerAt b v false l ph → step w ph us c ≡ goes (phase.Suffix b v true l)
-take_u w us c e (in_digits at_zero) = let k = u_no_digit Octal c e in if_false _ _ k.2 ∙ ap (λ z. digit_byte Octal 0 z (tail_of c)) k.0 ∙ ap (suffix Octal 0 false false) k.1
+take_u : (w : Context) (us : List ℕ) (c : ℕ) {b : Base} {v : ℕ} {l : Bool} {ph : Phase} → is_u c ≡ true → IntegerAt b v false l ph
+    → step w ph us c ≡ goes (phase.Suffix b v true l)
+take_u w us c e (in_digits at_zero) = let k = u_no_digit Octal c e in if_false _ _ k.2 ∙ ap (λ z. digit_byte Octal 0 z (tail_of c)) k.0 ∙ ap
+    (suffix Octal 0 false false) k.1
 take_u w us c e (in_digits (at_digits {b} {v})) = let k = u_no_digit b c e in ap (λ z. digit_byte b v z (tail_of c)) k.0 ∙ ap (suffix b v false false) k.1
 take_u w us c e (in_suffix {b} {v} {l}) = let k = u_no_digit b c e in ap (suffix b v false l) k.1
 
-take_l : (w : Context) (us : List ℕ) (c : ℕ) {b : Base} {v : ℕ} {u : Bool} {ph : Phase} → is_l c ≡ true → IntegerAt b v u false ph → step w ph us c ≡ goes (phase.Suffix b v u true)
-take_l w us c e (in_digits at_zero) = let k = l_no_digit Octal c e in if_false _ _ k.2 ∙ ap (λ z. digit_byte Octal 0 z (tail_of c)) k.0 ∙ ap (suffix Octal 0 false false) k.1
+take_l : (w : Context) (us : List ℕ) (c : ℕ) {b : Base} {v : ℕ} {u : Bool} {ph : Phase} → is_l c ≡ true → IntegerAt b v u false ph
+    → step w ph us c ≡ goes (phase.Suffix b v u true)
+take_l w us c e (in_digits at_zero) = let k = l_no_digit Octal c e in if_false _ _ k.2 ∙ ap (λ z. digit_byte Octal 0 z (tail_of c)) k.0 ∙ ap
+    (suffix Octal 0 false false) k.1
 take_l w us c e (in_digits (at_digits {b} {v})) = let k = l_no_digit b c e in ap (λ z. digit_byte b v z (tail_of c)) k.0 ∙ ap (suffix b v false false) k.1
 take_l w us c e (in_suffix {b} {v} {u}) = let k = l_no_digit b c e in ap (suffix b v u false) k.1 ∙ long_one b v u
   where
@@ -174,12 +194,14 @@ take_l w us c e (in_suffix {b} {v} {u}) = let k = l_no_digit b c e in ap (suffix
     long_one b v true = refl
     long_one b v false = refl
 
-integer_gets : (w : Context) → is_code w ≡ true → {b : Base} {v : ℕ} {u l : Bool} {us : List ℕ} → IsInteger b v u l us → (ph : Phase) × Gets w us ph × IntegerAt b v u l ph
+integer_gets : (w : Context) → is_code w ≡ true → {b : Base} {v : ℕ} {u l : Bool} {us : List ℕ} → IsInteger b v u l us
+    → (ph : Phase) × Gets w us ph × IntegerAt b v u l ph
 integer_gets w h (plain i) = let r = digits_get w h i in (r.0, r.1, in_digits r.2)
 integer_gets w h (with_u {b} {v} {l} {us} c i e) = let r = integer_gets w h i in (phase.Suffix b v true l, next_byte c r.1 (take_u w us c e r.2), in_suffix)
 integer_gets w h (with_l {b} {v} {u} {us} c i e) = let r = integer_gets w h i in (phase.Suffix b v u true, next_byte c r.1 (take_l w us c e r.2), in_suffix)
 
-integer_close : (w : Context) (us : List ℕ) {b : Base} {v : ℕ} {u l : Bool} {ph : Phase} → IntegerAt b v u l ph → close w ph us ≡ Ok (piece.Number v (integer_type b u l v))
+integer_close : (w : Context) (us : List ℕ) {b : Base} {v : ℕ} {u l : Bool} {ph : Phase} → IntegerAt b v u l ph
+    → close w ph us ≡ Ok (piece.Number v (integer_type b u l v))
 integer_close w us (in_digits at_zero) = refl
 integer_close w us (in_digits at_digits) = refl
 integer_close w us in_suffix = refl
@@ -190,12 +212,16 @@ suffix_outside b v true false = refl
 suffix_outside b v false true = refl
 suffix_outside b v false false = refl
 
-integer_stops : (w : Context) (us : List ℕ) (c : ℕ) {b : Base} {v : ℕ} {u l : Bool} {ph : Phase} → in_run c ≡ false → IntegerAt b v u l ph → step w ph us c ≡ stops
-integer_stops w us c e (in_digits at_zero) = if_false _ _ (run_no_x c e) ∙ ap (λ z. digit_byte Octal 0 z (tail_of c)) (no_digit Octal (class_of c) c e) ∙ ap (suffix Octal 0 false false) (outside (class_of c) c e)
-integer_stops w us c e (in_digits (at_digits {b} {v})) = ap (λ z. digit_byte b v z (tail_of c)) (no_digit b (class_of c) c e) ∙ ap (suffix b v false false) (outside (class_of c) c e)
+integer_stops : (w : Context) (us : List ℕ) (c : ℕ) {b : Base} {v : ℕ} {u l : Bool} {ph : Phase} → in_run c ≡ false → IntegerAt b v u l ph
+    → step w ph us c ≡ stops
+integer_stops w us c e (in_digits at_zero) = if_false _ _ (run_no_x c e) ∙ ap (λ z. digit_byte Octal 0 z (tail_of c)) (no_digit Octal (class_of c) c e) ∙ ap
+    (suffix Octal 0 false false) (outside (class_of c) c e)
+integer_stops w us c e (in_digits (at_digits {b} {v})) = ap (λ z. digit_byte b v z (tail_of c)) (no_digit b (class_of c) c e) ∙ ap (suffix b v false false)
+    (outside (class_of c) c e)
 integer_stops w us c e (in_suffix {b} {v} {u} {l}) = ap (suffix b v u l) (outside (class_of c) c e) ∙ suffix_outside b v u l
 
-number_spelled : (w : Context) (b : Base) (v : ℕ) (u l : Bool) (us : List ℕ) → is_code w ≡ true → IsInteger b v u l us → Spelled w (piece.Number v (integer_type b u l v)) us
+number_spelled : (w : Context) (b : Base) (v : ℕ) (u l : Bool) (us : List ℕ) → is_code w ≡ true → IsInteger b v u l us
+    → Spelled w (piece.Number v (integer_type b u l v)) us
 number_spelled w b v u l us h i = let r = integer_gets w h i in (r.0, r.1, integer_close w us r.2, λ c e. integer_stops w us c e r.2)
 
 -- character constants
@@ -233,9 +259,12 @@ Simple c None = Unit {0}
 simple_is : (c : ℕ) → Simple c (escape_of c)
 unfolding class_of
 simple_is c =
-    choose (Simple c) (c == 39) _ _ (λ e. is 39 e (refl, refl)) (λ _. choose (Simple c) (c == 34) _ _ (λ e. is 34 e (refl, refl)) (λ _. choose (Simple c) (c == 63) _ _ (λ e. is 63 e (refl, refl))
-    (λ _. choose (Simple c) (c == 92) _ _ (λ e. is 92 e (refl, refl)) (λ _. choose (Simple c) (c == 97) _ _ (λ e. is 97 e (refl, refl)) (λ _. choose (Simple c) (c == 98) _ _ (λ e. is 98 e (refl, refl))
-    (λ _. choose (Simple c) (c == 102) _ _ (λ e. is 102 e (refl, refl)) (λ _. choose (Simple c) (c == 110) _ _ (λ e. is 110 e (refl, refl)) (λ _. choose (Simple c) (c == 114) _ _ (λ e. is 114 e (refl, refl))
+    choose (Simple c) (c == 39) _ _ (λ e. is 39 e (refl, refl)) (λ _. choose (Simple c) (c == 34) _ _ (λ e. is 34 e (refl, refl))
+    (λ _. choose (Simple c) (c == 63) _ _ (λ e. is 63 e (refl, refl))
+    (λ _. choose (Simple c) (c == 92) _ _ (λ e. is 92 e (refl, refl))
+    (λ _. choose (Simple c) (c == 97) _ _ (λ e. is 97 e (refl, refl)) (λ _. choose (Simple c) (c == 98) _ _ (λ e. is 98 e (refl, refl))
+    (λ _. choose (Simple c) (c == 102) _ _ (λ e. is 102 e (refl, refl))
+    (λ _. choose (Simple c) (c == 110) _ _ (λ e. is 110 e (refl, refl)) (λ _. choose (Simple c) (c == 114) _ _ (λ e. is 114 e (refl, refl))
     (λ _. choose (Simple c) (c == 116) _ _ (λ e. is 116 e (refl, refl)) (λ _. choose (Simple c) (c == 118) _ _ (λ e. is 118 e (refl, refl)) (λ _. tt)))))))))))
   where
     is : (a : ℕ) → (c == a) ≡ true → (digit_of Octal a ≡ None) × ((a == 120) ≡ false) → (digit_of Octal c ≡ None) × ((c == 120) ≡ false)
@@ -243,7 +272,8 @@ simple_is c =
 
 octal_gets : (w : Context) → is_code w ≡ true → {n v : ℕ} {us : List ℕ} → IsOctalEscape n v us → Gets w us (phase.OctalDigits n v)
 octal_gets w h (first_octal {c} {d} e) = next_byte {us = 39 ∷ 92 ∷ []} c (escape_gets w h) (if_false _ _ (not_x c d e) ∙ ap (λ z. octal_or_simple z c) e)
-octal_gets w h (next_octal {n} {v} c d i l e m) = next_byte c (octal_gets w h i) (ap (octal_byte n v c) e ∙ if_true _ _ (ap (λ z. z && nat_lt (v * 8 + d) 256) (lt-ltb _ _ l) ∙ lt-ltb _ _ m))
+octal_gets w h (next_octal {n} {v} c d i l e m) = next_byte c (octal_gets w h i)
+    (ap (octal_byte n v c) e ∙ if_true _ _ (ap (λ z. z && nat_lt (v * 8 + d) 256) (lt-ltb _ _ l) ∙ lt-ltb _ _ m))
 
 hex_gets : (w : Context) → is_code w ≡ true → {v : ℕ} {us : List ℕ} → IsHexEscape v us → Gets w us (phase.HexDigits v)
 hex_gets w h (first_hex_digit {c} {d} e) = next_byte {us = 39 ∷ 92 ∷ 120 ∷ []} c (hex_escape_gets w h) (ap hex_escape_byte e)
@@ -263,7 +293,8 @@ quoted_gets : (w : Context) → is_code w ≡ true → {v : ℕ} {us : List ℕ}
 quoted_gets w h (plain_byte {c} e) = next_byte {us = 39 ∷ c ∷ []} 39 (next_byte {us = 39 ∷ []} c (quote_gets w h) (plain_quote c e)) refl
 quoted_gets w h (simple_escape {c} {v} e) =
     let k : Simple c (Some v) = subst (Simple c) e (simple_is c) in
-    next_byte {us = 39 ∷ 92 ∷ c ∷ []} 39 (next_byte {us = 39 ∷ 92 ∷ []} c (escape_gets w h) (if_false _ _ k.1 ∙ ap (λ z. octal_or_simple z c) k.0 ∙ ap simple e)) refl
+    next_byte {us = 39 ∷ 92 ∷ c ∷ []} 39 (next_byte {us = 39 ∷ 92 ∷ []} c (escape_gets w h)
+    (if_false _ _ k.1 ∙ ap (λ z. octal_or_simple z c) k.0 ∙ ap simple e)) refl
 quoted_gets w h (octal_escape {n} {v} i) = next_byte 39 (octal_gets w h i) (ap (octal_byte n v 39) (no_digit_quote Octal))
 quoted_gets w h (hex_escape {v} i) = next_byte 39 (hex_gets w h i) (ap (hex_byte v 39) (no_digit_quote Hex))
 

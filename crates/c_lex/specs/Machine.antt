@@ -1,5 +1,6 @@
 -- Reading byte by byte.
-use Rattle.std.specs.Prelude.{ℕ, ◌≡◌, ◌+◌, ◌*◌, ◌^◌, Bool, true, false, nat_lt, ◌==◌, ◌&&◌, ◌||◌, not, if◌then◌else◌, List, [], ◌∷◌, ◌++◌, length, drop, Option, Some, None, Result, Ok, Err}
+use Rattle.std.specs.Prelude.{ℕ, ◌≡◌, ◌+◌, ◌*◌, ◌^◌, Bool, true, false, nat_lt, ◌==◌, ◌&&◌, ◌||◌, not, if◌then◌else◌, List, [], ◌∷◌, ◌++◌, length, drop}
+use Rattle.std.specs.Prelude.{Option, Some, None, Result, Ok, Err}
 use Rattle.c_tree.specs.declared.token.Token.{Token}
 use Rattle.c_tree.specs.declared.token.Header.{Header}
 use Rattle.c_tree.specs.declared.token.Header.TheVariants.{Stdio, Stdlib}
@@ -174,7 +175,8 @@ spelled x ph (d ∷ e ∷ rest) c = if c == d then goes ph else stops
 
 -- the two headers part behind `<std`
 abbrev pub header_byte : Header → ℕ → ℕ → Result (Option Phase) LexKind
-header_byte Stdio at c = if at == 4 && c == 108 then goes (phase.HeaderName Stdlib) else spelled (piece.HeaderName Stdio) (phase.HeaderName Stdio) (drop at (header_spelling Stdio)) c
+header_byte Stdio at c = if at == 4 && c == 108 then goes (phase.HeaderName Stdlib) else spelled (piece.HeaderName Stdio) (phase.HeaderName Stdio)
+    (drop at (header_spelling Stdio)) c
 header_byte Stdlib at c = spelled (piece.HeaderName Stdlib) (phase.HeaderName Stdlib) (drop at (header_spelling Stdlib)) c
 
 abbrev pub marker_byte : ℕ → Result (Option Phase) LexKind
@@ -255,7 +257,8 @@ abbrev pub closed : Result Piece LexKind → Context → Place → List ℕ → 
 closed (Ok x) w p us c cs go = before (tokens_of x w p us) (entered (enter (after x w p us) c) (after x w p us) (past p us) c cs go)
 closed (Err k) w p us c cs go = Fault k (told_line k p us) (c ∷ cs)
 
-abbrev pub follow : Result (Option Phase) LexKind → Result Piece LexKind → Context → Place → List ℕ → ℕ → List ℕ → (Context → Place → List ℕ → Phase → Reading) → Reading
+abbrev pub follow : Result (Option Phase) LexKind → Result Piece LexKind → Context → Place → List ℕ → ℕ → List ℕ → (Context → Place → List ℕ → Phase → Reading)
+    → Reading
 follow (Ok (Some ph)) x w p us c cs go = go w p (us ++ c ∷ []) ph
 follow (Ok None) x w p us c cs go = closed x w p us c cs go
 follow (Err k) x w p us c cs go = Fault k (told_line k p us) (c ∷ cs)

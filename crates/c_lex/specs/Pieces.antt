@@ -1,5 +1,6 @@
 -- The pieces that a text is made of, each by its bytes (ISO C90, 6.1).
-use Rattle.std.specs.Prelude.{ℕ, ◌≡◌, ◌+◌, ◌*◌, ◌^◌, ◌<◌, ◌≤◌, Bool, true, false, nat_lt, ◌==◌, ◌&&◌, ◌||◌, not, if◌then◌else◌, List, [], ◌∷◌, ◌++◌, length, Option, Some, None, is_some}
+use Rattle.std.specs.Prelude.{ℕ, ◌≡◌, ◌+◌, ◌*◌, ◌^◌, ◌<◌, ◌≤◌, Bool, true, false, nat_lt, ◌==◌, ◌&&◌, ◌||◌, not, if◌then◌else◌, List, [], ◌∷◌, ◌++◌}
+use Rattle.std.specs.Prelude.{length, Option, Some, None, is_some}
 use Rattle.hlo_num.specs.declared.word.Ty.{Ty}
 use Rattle.hlo_num.specs.declared.word.Ty.TheVariants.{Int, UInt, Long, ULong}
 use Rattle.c_tree.specs.declared.token.Header.{Header}
@@ -26,7 +27,8 @@ pub data IsDigits : Base → ℕ → List ℕ → Type 0 where
   zero_digit : {c : ℕ} → class_of c ≡ class.Zero → IsDigits Octal 0 (c ∷ [])
   first_decimal : {c d : ℕ} → class_of c ≡ class.Digit → digit_of Decimal c ≡ Some d → IsDigits Decimal d (c ∷ [])
   first_hex : {z x c d : ℕ} → class_of z ≡ class.Zero → is_x x ≡ true → digit_of Hex c ≡ Some d → IsDigits Hex d (z ∷ x ∷ c ∷ [])
-  next_digit : {b : Base} {v : ℕ} {us : List ℕ} (c d : ℕ) → IsDigits b v us → digit_of b c ≡ Some d → v * radix b + d < 2 ^ 32 → IsDigits b (v * radix b + d) (us ++ c ∷ [])
+  next_digit : {b : Base} {v : ℕ} {us : List ℕ} (c d : ℕ) → IsDigits b v us → digit_of b c ≡ Some d → v * radix b + d < 2 ^ 32
+      → IsDigits b (v * radix b + d) (us ++ c ∷ [])
 
 -- digits and a suffix: whether it has a `u`, and whether it has an `l`
 pub data IsInteger : Base → ℕ → Bool → Bool → List ℕ → Type 0 where
@@ -52,7 +54,8 @@ escape_of c =
 -- `'`, a backslash and one to three octal digits; how many, and their value
 pub data IsOctalEscape : ℕ → ℕ → List ℕ → Type 0 where
   first_octal : {c d : ℕ} → digit_of Octal c ≡ Some d → IsOctalEscape 1 d (39 ∷ 92 ∷ c ∷ [])
-  next_octal : {n v : ℕ} {us : List ℕ} (c d : ℕ) → IsOctalEscape n v us → n < 3 → digit_of Octal c ≡ Some d → v * 8 + d < 256 → IsOctalEscape (n + 1) (v * 8 + d) (us ++ c ∷ [])
+  next_octal : {n v : ℕ} {us : List ℕ} (c d : ℕ) → IsOctalEscape n v us → n < 3 → digit_of Octal c ≡ Some d → v * 8 + d < 256
+      → IsOctalEscape (n + 1) (v * 8 + d) (us ++ c ∷ [])
 
 -- `'`, `\x` and hexadecimal digits, with their value
 pub data IsHexEscape : ℕ → List ℕ → Type 0 where
@@ -104,9 +107,11 @@ pub data IsPiece : Context → Piece → List ℕ → Type 0 where
   include_word : {p : Place} → IsPiece (Hash p) piece.IncludeWord include_spelling
   header : {p : Place} (h : Header) → IsPiece (Include p) (piece.HeaderName h) (header_spelling h)
   marker : {p : Place} {c : ℕ} {us : List ℕ} → is_digit (class_of c) ≡ true → feeds us ≡ 0 → IsPiece (Hash p) piece.Marker (c ∷ us)
-  name : {w : Context} {us : List ℕ} → is_code w ≡ true → IsIdentifier us → length us ≤ 255 → word_named us ≡ None → is_left_out us ≡ false → IsPiece w piece.Name us
+  name : {w : Context} {us : List ℕ} → is_code w ≡ true → IsIdentifier us → length us ≤ 255 → word_named us ≡ None → is_left_out us ≡ false
+      → IsPiece w piece.Name us
   word : {w : Context} → is_code w ≡ true → (r : Reserved) → IsPiece w (piece.Word r) (word_spelling r)
-  number : {w : Context} {b : Base} {v : ℕ} {u l : Bool} {us : List ℕ} → is_code w ≡ true → IsInteger b v u l us → IsPiece w (piece.Number v (integer_type b u l v)) us
+  number : {w : Context} {b : Base} {v : ℕ} {u l : Bool} {us : List ℕ} → is_code w ≡ true → IsInteger b v u l us
+      → IsPiece w (piece.Number v (integer_type b u l v)) us
   character : {w : Context} {v : ℕ} {us : List ℕ} → is_code w ≡ true → IsQuoted v us → IsPiece w (piece.Character v) (us ++ 39 ∷ [])
   punctuator : {w : Context} → is_code w ≡ true → (m : Punct) → IsPiece w (piece.Punct m) (punct_spelling m)
 

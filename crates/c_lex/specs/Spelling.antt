@@ -37,7 +37,8 @@ word_spelling word.While = codes "while"
 abbrev pub words : List Reserved
 words =
     word.Auto ∷ word.Break ∷ word.Case ∷ word.Char ∷ word.Const ∷ word.Continue ∷ word.Default ∷ word.Do ∷ word.Else ∷ word.Enum ∷ word.Extern ∷ word.For
-    ∷ word.If ∷ word.Int ∷ word.Long ∷ word.Register ∷ word.Return ∷ word.Short ∷ word.Signed ∷ word.Static ∷ word.Switch ∷ word.Unsigned ∷ word.Void ∷ word.While ∷ []
+    ∷ word.If ∷ word.Int ∷ word.Long ∷ word.Register ∷ word.Return ∷ word.Short ∷ word.Signed ∷ word.Static ∷ word.Switch ∷ word.Unsigned ∷ word.Void ∷
+    word.While ∷ []
 
 -- the reserved words of C90 that the profile leaves out
 abbrev pub left_out_words : List (List ℕ)
@@ -90,10 +91,14 @@ punct_spelling punct.ShiftRightAssign = codes ">>="
 
 abbrev pub puncts : List Punct
 puncts =
-    punct.OpenParen ∷ punct.CloseParen ∷ punct.OpenBracket ∷ punct.CloseBracket ∷ punct.OpenBrace ∷ punct.CloseBrace ∷ punct.Comma ∷ punct.Semicolon ∷ punct.Colon ∷ punct.Question ∷ punct.Tilde
-    ∷ punct.Plus ∷ punct.Minus ∷ punct.Star ∷ punct.Slash ∷ punct.Percent ∷ punct.Ampersand ∷ punct.Bar ∷ punct.Caret ∷ punct.Exclamation ∷ punct.Less ∷ punct.Greater ∷ punct.Equals
-    ∷ punct.Increment ∷ punct.Decrement ∷ punct.ShiftLeft ∷ punct.ShiftRight ∷ punct.LessEqual ∷ punct.GreaterEqual ∷ punct.EqualEqual ∷ punct.NotEqual ∷ punct.AndAnd ∷ punct.OrOr
-    ∷ punct.AddAssign ∷ punct.SubtractAssign ∷ punct.MultiplyAssign ∷ punct.DivideAssign ∷ punct.RemainderAssign ∷ punct.AndAssign ∷ punct.OrAssign ∷ punct.XorAssign ∷ punct.ShiftLeftAssign ∷ punct.ShiftRightAssign ∷ []
+    punct.OpenParen ∷ punct.CloseParen ∷ punct.OpenBracket ∷ punct.CloseBracket ∷ punct.OpenBrace ∷ punct.CloseBrace ∷ punct.Comma ∷ punct.Semicolon ∷
+    punct.Colon ∷ punct.Question ∷ punct.Tilde
+    ∷ punct.Plus ∷ punct.Minus ∷ punct.Star ∷ punct.Slash ∷ punct.Percent ∷ punct.Ampersand ∷ punct.Bar ∷ punct.Caret ∷ punct.Exclamation ∷ punct.Less ∷
+    punct.Greater ∷ punct.Equals
+    ∷ punct.Increment ∷ punct.Decrement ∷ punct.ShiftLeft ∷ punct.ShiftRight ∷ punct.LessEqual ∷ punct.GreaterEqual ∷ punct.EqualEqual ∷ punct.NotEqual ∷
+    punct.AndAnd ∷ punct.OrOr
+    ∷ punct.AddAssign ∷ punct.SubtractAssign ∷ punct.MultiplyAssign ∷ punct.DivideAssign ∷ punct.RemainderAssign ∷ punct.AndAssign ∷ punct.OrAssign ∷
+    punct.XorAssign ∷ punct.ShiftLeftAssign ∷ punct.ShiftRightAssign ∷ []
 
 abbrev pub header_spelling : Header → List ℕ
 header_spelling Stdio = codes "<stdio.h>"

@@ -52,7 +52,8 @@ tokens_of _ w p us = []
 -- pieces, each the longest that stands there, up to bytes of which E holds, with the context and the place there
 pub data Pieces (E : Context → Place → List ℕ → Type 0) : Context → Place → List Token → List ℕ → Type 0 where
   ending : {w : Context} {p : Place} {cs : List ℕ} → E w p cs → Pieces E w p [] cs
-  then_piece : {w : Context} {p : Place} {x : Piece} {us cs : List ℕ} {ts : List Token} → IsPiece w x us → IsLongest x us cs → Pieces E (after x w p us) (past p us) ts cs → Pieces E w p (tokens_of x w p us ++ ts) (us ++ cs)
+  then_piece : {w : Context} {p : Place} {x : Piece} {us cs : List ℕ} {ts : List Token} → IsPiece w x us → IsLongest x us cs
+      → Pieces E (after x w p us) (past p us) ts cs → Pieces E w p (tokens_of x w p us ++ ts) (us ++ cs)
 
 -- nothing is left, and no directive is open
 abbrev pub AtEnd : Context → Place → List ℕ → Type 0
@@ -81,10 +82,14 @@ IsOpenComment us = (vs : List ℕ) × (us ≡ 47 ∷ 42 ∷ vs) × (has_close vs
 pub data Cause : Context → List ℕ → Option ℕ → LexKind → Type 0 where
   no_piece : {w : Context} {c : ℕ} → is_code w ≡ true → (c == 34) ≡ false → Cause w [] (Some c) BadByte
   quote : {w : Context} → is_code w ≡ true → Cause w [] (Some 34) LeftOut
-  left_out : {w : Context} {us : List ℕ} {o : Option ℕ} → is_code w ≡ true → is_left_out us ≡ true → begins (λ c. in_word (class_of c)) o ≡ false → Cause w us o LeftOut
-  long_name : {w : Context} {us : List ℕ} {c : ℕ} → is_code w ≡ true → IsIdentifier us → length us ≡ 255 → in_word (class_of c) ≡ true → Cause w us (Some c) LongName
-  too_big : {w : Context} {b : Base} {v : ℕ} {us : List ℕ} {c : ℕ} (d : ℕ) → is_code w ≡ true → IsDigits b v us → digit_of b c ≡ Some d → 2 ^ 32 ≤ v * radix b + d → Cause w us (Some c) TooBig
-  bad_number : {w : Context} {a : ℕ} {us : List ℕ} {o : Option ℕ} → is_code w ≡ true → is_digit (class_of a) ≡ true → ((b : Base) (v c d : ℕ) → IsDigits b v (a ∷ us) → o ≡ Some c → digit_of b c ≡ Some d → ⊥) → Cause w (a ∷ us) o BadNumber
+  left_out : {w : Context} {us : List ℕ} {o : Option ℕ} → is_code w ≡ true → is_left_out us ≡ true → begins (λ c. in_word (class_of c)) o ≡ false
+      → Cause w us o LeftOut
+  long_name : {w : Context} {us : List ℕ} {c : ℕ} → is_code w ≡ true → IsIdentifier us → length us ≡ 255 → in_word (class_of c) ≡ true
+      → Cause w us (Some c) LongName
+  too_big : {w : Context} {b : Base} {v : ℕ} {us : List ℕ} {c : ℕ} (d : ℕ) → is_code w ≡ true → IsDigits b v us → digit_of b c ≡ Some d
+      → 2 ^ 32 ≤ v * radix b + d → Cause w us (Some c) TooBig
+  bad_number : {w : Context} {a : ℕ} {us : List ℕ} {o : Option ℕ} → is_code w ≡ true → is_digit (class_of a) ≡ true
+      → ((b : Base) (v c d : ℕ) → IsDigits b v (a ∷ us) → o ≡ Some c → digit_of b c ≡ Some d → ⊥) → Cause w (a ∷ us) o BadNumber
   bad_char : {w : Context} {us : List ℕ} {o : Option ℕ} → is_code w ≡ true → Cause w (39 ∷ us) o BadChar
   open_comment : {w : Context} {us : List ℕ} → IsOpenComment us → Cause w us None OpenComment
   directive : {w : Context} {us : List ℕ} {o : Option ℕ} → is_code w ≡ false → (o ≡ None → IsOpenComment us → ⊥) → Cause w us o Directive

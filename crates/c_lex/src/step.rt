@@ -3,7 +3,8 @@ ghost use Rattle.std.specs.Prelude.{◌≡◌, ◌+◌, ◌*◌, ◌<◌, ◌≤
 ghost use Rattle.c_lex.specs.Bytes.{digit_of};
 ghost use Rattle.c_lex.specs.Pieces.{is_code, escape_of};
 ghost use Rattle.c_lex.specs.Spelling.{header_spelling, include_spelling, punct_spelling};
-ghost use Rattle.c_lex.specs.Machine.{step, slash, comment_byte, name_byte, suffix, digit_byte, zero_byte, quote_byte, escape_byte, octal_byte, hex_byte, body_byte, spelled, header_byte, tail_of};
+ghost use Rattle.c_lex.specs.Machine.{step, slash, comment_byte, name_byte, suffix, digit_byte, zero_byte, quote_byte, escape_byte, octal_byte};
+ghost use Rattle.c_lex.specs.Machine.{hex_byte, body_byte, spelled, header_byte, tail_of};
 
 use crate::bytes::{class_of, digit_of, in_word, is_x, tail_of};
 use crate::fault::LexKind;

@@ -1,5 +1,6 @@
 -- What a piece of a draft puts in front of the code that follows.
-use Rattle.std.proofs.Common.{◌≡◌, ℕ, zero, suc, ◌<◌, ◌≤◌, List, [], ◌∷◌, ◌++◌, map, length, get_or, refl, sym, ap, ◌∙◌, arith, Bool, true, false, append_assoc, append-nil, length-append, length-set, get_or-set_same, get_or-set_other}
+use Rattle.std.proofs.Common.{◌≡◌, ℕ, zero, suc, ◌<◌, ◌≤◌, List, [], ◌∷◌, ◌++◌, map, length, get_or, refl, sym, ap, ◌∙◌, arith, Bool, true, false}
+use Rattle.std.proofs.Common.{append_assoc, append-nil, length-append, length-set, get_or-set_same, get_or-set_other}
 use Rattle.std.specs.Prelude.{slice_set}
 use Rattle.il_core.specs.declared.instr.Block.{Block}
 use Rattle.il_core.specs.declared.instr.Instr.{Instr}

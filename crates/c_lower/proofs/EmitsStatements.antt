@@ -1,5 +1,6 @@
 -- The draft of a statement is its code.
-use Rattle.std.proofs.Common.{ℕ, suc, ◌<◌, ◌≤◌, List, [], ◌∷◌, ◌++◌, length, sym, ap, ◌∙◌, subst, arith, Bool, true, false, Option, Some, None, refl, append_assoc, length-append}
+use Rattle.std.proofs.Common.{ℕ, suc, ◌<◌, ◌≤◌, List, [], ◌∷◌, ◌++◌, length, sym, ap, ◌∙◌, subst, arith, Bool, true, false, Option, Some, None, refl}
+use Rattle.std.proofs.Common.{append_assoc, length-append}
 use Rattle.il_core.specs.declared.instr.End.{End}
 use Rattle.il_core.specs.declared.instr.End.TheVariants as ends
 use Rattle.c_typed.specs.declared.expression.Variable.TheVariants as variables
@@ -16,10 +17,13 @@ use Rattle.lower_laws.specs.Switches as switches
 use Rattle.c_lower.specs.Drafts.{Draft, Fixed, layout_with, finish, next_label, mark, reach, declare, begin_block}
 use Rattle.c_lower.specs.Expressions.{written}
 use Rattle.c_lower.specs.Settled.{settle}
-use Rattle.c_lower.specs.Statements.{arrived, turned, looped, optional, condition, no_value, returned, declared, stated, sections, cases_marked, cases_tested, default_label, labels_at, labels_arrived}
+use Rattle.c_lower.specs.Statements.{arrived, turned, looped, optional, condition, no_value, returned, declared, stated, sections, cases_marked}
+use Rattle.c_lower.specs.Statements.{cases_tested, default_label, labels_at, labels_arrived}
 use Rattle.lower_laws.specs.Statements.{section_block, tests_code}
-use Rattle.c_lower.proofs.EmitsSwitches.{cases_at, labels_up, cases_up, marked_cases, cases_size, CasesAt, cases_by, cases_tests, cases_right, default_right, Right, Fills, fills_none, fills_then, labels_fill}
-use Rattle.c_lower.proofs.Emits.{Grown, Agrees, Emits, joined, grown_none, grown_one, grown_then, none, one_then, puts, closes, marks, known, hole, begins, branches, still}
+use Rattle.c_lower.proofs.EmitsSwitches.{cases_at, labels_up, cases_up, marked_cases, cases_size, CasesAt, cases_by, cases_tests, cases_right}
+use Rattle.c_lower.proofs.EmitsSwitches.{default_right, Right, Fills, fills_none, fills_then, labels_fill}
+use Rattle.c_lower.proofs.Emits.{Grown, Agrees, Emits, joined, grown_none, grown_one, grown_then, none, one_then, puts, closes, marks, known, hole}
+use Rattle.c_lower.proofs.Emits.{begins, branches, still}
 use Rattle.c_lower.proofs.EmitsExpressions.{emits_expr, stores}
 
 -- a declarator gives the next local its register

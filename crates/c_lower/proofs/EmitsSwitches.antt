@@ -1,5 +1,6 @@
 -- The labels and tests of a switch, whose labels stand in a row and are reached in the sections.
-use Rattle.std.proofs.Common.{◌≡◌, ℕ, suc, ◌<◌, ◌≤◌, List, [], ◌∷◌, ◌++◌, length, get_or, ap, ◌∙◌, arith, Bool, true, refl, length-append, length-set, get_or-set_same, get_or-set_other}
+use Rattle.std.proofs.Common.{◌≡◌, ℕ, suc, ◌<◌, ◌≤◌, List, [], ◌∷◌, ◌++◌, length, get_or, ap, ◌∙◌, arith, Bool, true, refl, length-append, length-set}
+use Rattle.std.proofs.Common.{get_or-set_same, get_or-set_other}
 use Rattle.std.specs.Prelude.{slice_set}
 use Rattle.hlo_num.specs.declared.word.Op.TheVariants as op
 use Rattle.il_core.specs.declared.instr.Instr.TheVariants as instr
@@ -14,7 +15,8 @@ use Rattle.lower_laws.specs.Layouts.{Outline, Layout}
 use Rattle.lower_laws.specs.Statements.{open_behind, stmt_past, section_block, tests_code}
 use Rattle.lower_laws.specs.Switches.{labels_past, labels_open, labels_code, label_block, test_past, label_tests_past, label_tests}
 use Rattle.c_lower.specs.Drafts.{Draft, next_label, mark, reach}
-use Rattle.c_lower.specs.Statements.{arrived, labels_at, labels_marked, cases_marked, default_in, or_label, default_label, case_tested, labels_tested, cases_tested, labels_arrived}
+use Rattle.c_lower.specs.Statements.{arrived, labels_at, labels_marked, cases_marked, default_in, or_label, default_label, case_tested, labels_tested}
+use Rattle.c_lower.specs.Statements.{cases_tested, labels_arrived}
 use Rattle.c_lower.proofs.Emits.{Grown, Emits, joined, grown_none, grown_then, grown_one, none, one_then, puts, closes, known, begins}
 
 -- the label behind those of all sections

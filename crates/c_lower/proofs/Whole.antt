@@ -1,5 +1,6 @@
 -- The blocks of a function's draft are those of its routine.
-use Rattle.std.proofs.Common.{◌≡◌, ℕ, zero, suc, ◌+◌, List, [], ◌∷◌, ◌++◌, map, length, take, get_or, sym, ap, ◌∙◌, arith, Bool, true, false, Option, Some, None, refl, append-nil}
+use Rattle.std.proofs.Common.{◌≡◌, ℕ, zero, suc, ◌+◌, List, [], ◌∷◌, ◌++◌, map, length, take, get_or, sym, ap, ◌∙◌, arith, Bool, true, false, Option}
+use Rattle.std.proofs.Common.{Some, None, refl, append-nil}
 use Rattle.std.specs.Prelude.{slice_index, slice_get, is_some}
 use mathlib.Core.Path.{fun_ext}
 use Rattle.il_core.specs.declared.instr.Block.{Block}
@@ -9,7 +10,8 @@ use Rattle.c_typed.specs.declared.function.Local.{Local}
 use Rattle.c_typed.specs.Trees.{Function}
 use Rattle.lower_laws.specs.Bound.{IsBound, scope_of}
 use Rattle.lower_laws.specs.Code.{Numbers, blocks_of}
-use Rattle.lower_laws.specs.Functions.{array_lengths, arrays_before, body_code, body_past, declarators, first_numbers, is_some_array, last_code, last_numbers, layout_of, with_length}
+use Rattle.lower_laws.specs.Functions.{array_lengths, arrays_before, body_code, body_past, declarators, first_numbers, is_some_array, last_code}
+use Rattle.lower_laws.specs.Functions.{last_numbers, layout_of, with_length}
 use Rattle.lower_laws.specs.Statements.{no_value_past, stmt_code}
 use Rattle.c_lower.specs.Drafts.{Draft, layout_with, write, finish, next_label, mark, reach}
 use Rattle.c_lower.specs.Lowering.{array_places, body_drafted, fixed, nothing}

@@ -17,7 +17,8 @@ use Rattle.c_typed.specs.Trees as tree
 use Rattle.c_typed.specs.Trees.{Place, Expr, Arguments}
 use Rattle.lower_laws.specs.Code.{Numbers, past_reg, past_instr, past_end, past_new, past_label, word}
 use Rattle.lower_laws.specs.Operations.{load, store, conv_past, conv_result, operation, update_past, update_result}
-use Rattle.lower_laws.specs.Expressions.{result_past, result_register, arm_past, arm_open, logical_end, skipped, past, place_past, arguments_past, result, spot_at, results}
+use Rattle.lower_laws.specs.Expressions.{result_past, result_register, arm_past, arm_open, logical_end, skipped, past, place_past, arguments_past}
+use Rattle.lower_laws.specs.Expressions.{result, spot_at, results}
 use Rattle.c_lower.specs.Drafts.{Draft, Fixed, write, finish, next_label, mark, reach, layout_now, begin_block, branch}
 
 abbrev pub constant : Word → Numbers → Draft → Draft

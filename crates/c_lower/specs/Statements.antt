@@ -14,7 +14,8 @@ use Rattle.c_typed.specs.Trees.{Expr, Stmt, Sections}
 use Rattle.lower_laws.specs.Code.{Numbers, past_instr, past_end, past_label, word}
 use Rattle.lower_laws.specs.Expressions.{past, result}
 use Rattle.lower_laws.specs.Switches.{labels_past, labels_open, test_past, label_tests_past, tests_past}
-use Rattle.lower_laws.specs.Statements.{optional_past, optional_open, condition_past, no_value_past, local_past, open_behind, sections_open, stmt_past, sections_past}
+use Rattle.lower_laws.specs.Statements.{optional_past, optional_open, condition_past, no_value_past, local_past, open_behind, sections_open, stmt_past}
+use Rattle.lower_laws.specs.Statements.{sections_past}
 use Rattle.c_lower.specs.Drafts.{Draft, Fixed, write, finish, next_label, mark, reach, declare, begin_block, branch}
 use Rattle.c_lower.specs.Expressions.{stored, written}
 

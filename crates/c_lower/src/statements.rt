@@ -170,7 +170,8 @@ impl Writer {
     ) -> Result<bool, LowerFault>
         ensures opened { IfOk result (λ b. b ≡ laws.open_behind (stmt_of s.now) opened) }
         ensures numbers { OnOk result (self.new.numbers ≡ laws.stmt_past (fixed_of c.now).outline (stmt_of s.now) opened self.old.numbers) }
-        ensures draft { OnOk result (self.new.draft ≡ specs.stated (fixed_of c.now) exits.breaks exits.continues (stmt_of s.now) opened self.old.numbers self.old.draft) }
+        ensures draft { OnOk result (self.new.draft ≡ specs.stated (fixed_of c.now) exits.breaks exits.continues (stmt_of s.now) opened
+            self.old.numbers self.old.draft) }
     {
         match s {
             TypedStmt::Block(items) => self.sequence(items.as_slice(), opened, exits, c),
@@ -297,8 +298,10 @@ impl Writer {
         c: &Setting,
     ) -> Result<bool, LowerFault>
         ensures opened { IfOk result (λ b. b ≡ laws.open_behind (sequence_from (map stmt_of ss.now)) opened) }
-        ensures numbers { OnOk result (self.new.numbers ≡ laws.stmt_past (fixed_of c.now).outline (sequence_from (map stmt_of ss.now)) opened self.old.numbers) }
-        ensures draft { OnOk result (self.new.draft ≡ specs.stated (fixed_of c.now) exits.breaks exits.continues (sequence_from (map stmt_of ss.now)) opened self.old.numbers self.old.draft) }
+        ensures numbers { OnOk result (self.new.numbers ≡ laws.stmt_past (fixed_of c.now).outline (sequence_from (map stmt_of ss.now)) opened
+            self.old.numbers) }
+        ensures draft { OnOk result (self.new.draft ≡ specs.stated (fixed_of c.now) exits.breaks exits.continues (sequence_from (map stmt_of ss.now)) opened
+            self.old.numbers self.old.draft) }
     {
         let mut goes_on = opened;
         for s in ss {
@@ -317,8 +320,10 @@ impl Writer {
         c: &Setting,
     ) -> Result<bool, LowerFault>
         ensures opened { IfOk result (λ b. b ≡ laws.sections_open (sections_from (map section_of ss.now)) false) }
-        ensures numbers { OnOk result (self.new.numbers ≡ laws.sections_past (fixed_of c.now).outline (sections_from (map section_of ss.now)) false self.old.numbers) }
-        ensures draft { OnOk result (self.new.draft ≡ specs.sections (fixed_of c.now) exits.breaks exits.continues (sections_from (map section_of ss.now)) at false self.old.numbers self.old.draft) }
+        ensures numbers { OnOk result (self.new.numbers ≡ laws.sections_past (fixed_of c.now).outline (sections_from (map section_of ss.now)) false
+            self.old.numbers) }
+        ensures draft { OnOk result (self.new.draft ≡ specs.sections (fixed_of c.now) exits.breaks exits.continues (sections_from (map section_of ss.now)) at
+            false self.old.numbers self.old.draft) }
     {
         let mut label = at;
         let mut goes_on = false;

@@ -35,7 +35,10 @@ impl Model for Writer {
 
     ghost Value = { Writing };
 
-    ghost view = { λ w. record { numbers = record { reg = w.reg; block = w.block; site = w.site; size = w.size }; draft = record { done = w.done.items; here = w.here.items; targets = w.targets.items; locals = w.locals.items } } };
+    ghost view = { λ w. record {
+      numbers = record { reg = w.reg; block = w.block; site = w.site; size = w.size };
+      draft = record { done = w.done.items; here = w.here.items; targets = w.targets.items; locals = w.locals.items };
+    } };
 }
 
 /// The next number. Numbers past 32 bits don't fit any memory.

@@ -11,13 +11,19 @@ use Rattle.c_parse.specs.declared.precedence.Precedence.{Precedence}
 use Rattle.c_parse.specs.declared.precedence.Precedence.TheVariants.{LogicalOr, LogicalAnd, Or, Xor, And, Equality, Relation, Shift, Sum, Product}
 use Rattle.c_parse.specs.Classes.{punct, word}
 use Rattle.c_parse.specs.Languages.{Lang, sign, among, either, lead, trail}
-use Rattle.c_parse.specs.Trees.{Sized, add, one, all_or_none, kind_constant, Suffix, Subscript, Arguments, named, paren, postfix, prefix, unary, cast, binary, conditional, assign, comma, enumerator, EnumRest, Tagged, Untagged, enum, specifier_word, first_specifier, next_specifier, specifiers}
-use Rattle.c_parse.specs.Expressions.{Rank, Comma, Assignment, Conditional, Binary, Cast, Unary, Postfix, operators, assignment_operators, steps, unary_operators, specifier_words, identifier, braced, row, IsEnumerator, IsSpecifier, IsSpecifiers, IsPrimary, IsPostfix, IsUnary, IsCast, joined, IsProduct, IsSum, IsShift, IsRelation, IsEquality, IsAnd, IsXor, IsOr, IsLogicalAnd, IsLogicalOr, IsConditional, IsAssignment, IsComma, IsRank, IsExpr}
+use Rattle.c_parse.specs.Trees.{Sized, add, one, all_or_none, kind_constant, Suffix, Subscript, Arguments, named, paren, postfix, prefix, unary, cast}
+use Rattle.c_parse.specs.Trees.{binary, conditional, assign, comma, enumerator, EnumRest, Tagged, Untagged, enum, specifier_word, first_specifier}
+use Rattle.c_parse.specs.Trees.{next_specifier, specifiers}
+use Rattle.c_parse.specs.Expressions.{Rank, Comma, Assignment, Conditional, Binary, Cast, Unary, Postfix, operators, assignment_operators, steps}
+use Rattle.c_parse.specs.Expressions.{unary_operators, specifier_words, identifier, braced, row, IsEnumerator, IsSpecifier, IsSpecifiers, IsPrimary}
+use Rattle.c_parse.specs.Expressions.{IsPostfix, IsUnary, IsCast, joined, IsProduct, IsSum, IsShift, IsRelation, IsEquality, IsAnd, IsXor, IsOr}
+use Rattle.c_parse.specs.Expressions.{IsLogicalAnd, IsLogicalOr, IsConditional, IsAssignment, IsComma, IsRank, IsExpr}
 use Rattle.c_parse.proofs.Maps.{On, Each, Any, Opt, each_any, each_made, each_both, each_either, each_optional, each_lead, each_trail, each_built}
 use Rattle.c_parse.proofs.Heights.{Low, rest_height, suffix_height, on_rank}
 
 pub each_row : {X : Type 0} (n : ℕ) {L : Lang (X × ℕ)} → Each (Low n) L → Each (Low n) (row L)
-each_row n m = each_built (Low n) (Low n) add (λ a b h k. omega (arith, h, k)) (each_made (Low n) (Low n) one (λ a h. h) m) (each_lead (Low n) (punct p.Comma) m)
+each_row n m = each_built (Low n) (Low n) add (λ a b h k. omega (arith, h, k)) (each_made (Low n) (Low n) one (λ a h. h) m)
+    (each_lead (Low n) (punct p.Comma) m)
 
 each_inside : {A : Type 0} (P : A → Type 0) (j k : ℕ) {L : Lang A} → Each P L → Each P (lead j (trail L k))
 each_inside P j k m = each_lead P j (each_trail P k m)
@@ -52,7 +58,8 @@ module _ (n : ℕ) {E : Lang Sized} (f : Each (Low n) E) where
 
   pub each_specifiers : Each (Low n) (IsSpecifiers E)
   each_specifiers = each_made (λ c. c.1.1 ≤ n) (Low n) specifiers (λ c h. h)
-      (each_built (λ c. c.1.1 ≤ n) (Low n) next_specifier (λ a b h k. omega (arith, h, k)) (each_made (Low n) (λ c. c.1.1 ≤ n) first_specifier (λ c h. h) each_specifier) each_specifier)
+      (each_built (λ c. c.1.1 ≤ n) (Low n) next_specifier (λ a b h k. omega (arith, h, k))
+      (each_made (Low n) (λ c. c.1.1 ≤ n) first_specifier (λ c h. h) each_specifier) each_specifier)
 
 abbrev pub Fine : ℕ → Sized → Type 0
 Fine n c = (1 ≤ c.1) × (c.1 ≤ suc n)

@@ -41,7 +41,8 @@ module _ {X B : Type 0} (C F : ℕ → Lang (X × ℕ)) (T : ℕ → Lang B) (te
     (wider2 : (n : ℕ) (b : B) (us : List Token) → T n b us → T (suc n) b us) where
   pub grown_chain : (n : ℕ) (c : X × ℕ) (us : List Token) → Grown (F n) (T n) test (fits n) g c us → C (suc n) c us
   grown_chain n c us (start b vs l) = into n b vs (inl l)
-  grown_chain n c us (more d b us1 vs gr e1 e2 l) = into n (g d b) (us1 ++ vs) (inr ((d, b), refl, (us1, vs, refl, (e1, lowers n d us1 (grown_chain n d us1 gr) (fits_le n d e2)), l)))
+  grown_chain n c us (more d b us1 vs gr e1 e2 l) = into n (g d b) (us1 ++ vs)
+      (inr ((d, b), refl, (us1, vs, refl, (e1, lowers n d us1 (grown_chain n d us1 gr) (fits_le n d e2)), l)))
 
   raise : (n : ℕ) (c : X × ℕ) (us : List Token) → Grown (F n) (T n) test (fits n) g c us → Grown (F (suc n)) (T (suc n)) test (fits (suc n)) g c us
   raise n = grown_mono (wider n) (λ a f. wider2 n) (λ a h. fits_mono n (suc n) a (omega arith) h)
@@ -54,6 +55,10 @@ module _ {X B : Type 0} (C F : ℕ → Lang (X × ℕ)) (T : ℕ → Lang B) (te
       go (inr (d, e, (us1, vs, e2, tc, k))) = absurd (empty d.0 us1 tc.1)
   chain_grown (suc n) c us l = go (chain_grown n) (out (suc n) c us l)
     where
-      go : ((d : X × ℕ) (vs : List Token) → C (suc n) d vs → Grown (F n) (T n) test (fits n) g d vs) → either (F (suc n)) (made (λ d. g d.0 d.1) (both (such test (C (suc n))) (T (suc n)))) c us → Grown (F (suc n)) (T (suc n)) test (fits (suc n)) g c us
+      go : ((d : X × ℕ) (vs : List Token) → C (suc n) d vs → Grown (F n) (T n) test (fits n) g d vs)
+          → either (F (suc n)) (made (λ d. g d.0 d.1) (both (such test (C (suc n))) (T (suc n)))) c us
+          → Grown (F (suc n)) (T (suc n)) test (fits (suc n)) g c us
       go ih (inl k) = start c us k
-      go ih (inr (d, e, (us1, vs, e2, tc, k))) = subst (λ z. Grown (F (suc n)) (T (suc n)) test (fits (suc n)) g z us) (sym e) (subst (Grown (F (suc n)) (T (suc n)) test (fits (suc n)) g (g d.0 d.1)) (sym e2) (more d.0 d.1 us1 vs (raise n d.0 us1 (ih d.0 us1 tc.1)) tc.0 (le_fits (suc n) d.0 (omega arith) (bounded (suc n) d.0 us1 tc.1)) k))
+      go ih (inr (d, e, (us1, vs, e2, tc, k))) = subst (λ z. Grown (F (suc n)) (T (suc n)) test (fits (suc n)) g z us) (sym e)
+          (subst (Grown (F (suc n)) (T (suc n)) test (fits (suc n)) g (g d.0 d.1)) (sym e2)
+          (more d.0 d.1 us1 vs (raise n d.0 us1 (ih d.0 us1 tc.1)) tc.0 (le_fits (suc n) d.0 (omega arith) (bounded (suc n) d.0 us1 tc.1)) k))

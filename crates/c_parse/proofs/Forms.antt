@@ -14,7 +14,9 @@ use Rattle.c_parse.specs.declared.precedence.Precedence.TheVariants.{LogicalOr, 
 use Rattle.c_parse.specs.Classes.{punct}
 use Rattle.c_parse.specs.Languages.{Lang, sign, among, both, either, made, such, trail}
 use Rattle.c_parse.specs.Trees.{Sized, node, kind_constant, Suffix, Subscript, Arguments, named, paren, postfix, prefix, unary, cast, binary}
-use Rattle.c_parse.specs.Expressions.{Rank, Conditional, Binary, Cast, Unary, Postfix, steps, IsSpecifiers, IsPrimary, IsPostfix, IsUnary, IsCast, joined, IsProduct, IsSum, IsShift, IsRelation, IsEquality, IsAnd, IsXor, IsOr, IsLogicalAnd, IsLogicalOr, IsConditional, IsAssignment, IsRank, IsExpr}
+use Rattle.c_parse.specs.Expressions.{Rank, Conditional, Binary, Cast, Unary, Postfix, steps, IsSpecifiers, IsPrimary, IsPostfix, IsUnary, IsCast}
+use Rattle.c_parse.specs.Expressions.{joined, IsProduct, IsSum, IsShift, IsRelation, IsEquality, IsAnd, IsXor, IsOr, IsLogicalAnd, IsLogicalOr}
+use Rattle.c_parse.specs.Expressions.{IsConditional, IsAssignment, IsRank, IsExpr}
 use Rattle.c_parse.specs.ExpressionReaders.{postfix_layer, unary_layer, closed_layer, is_postfix, is_unary, is_condition, Typed, Inner, opened}
 use Rattle.c_parse.proofs.Maps.{Each, Any, each_any, each_made, each_either}
 use Rattle.c_parse.proofs.Operands.{ParenL, CastOrParenL, PrefixedL, OperandL}
@@ -75,24 +77,29 @@ condition_constant l (kinds.Constant v ty) c e = some_is (True is_condition) _ c
 module _ (G : Rank → Lang Sized) where
   postfix_primary : Each (True is_postfix) (IsPrimary G)
   postfix_primary = each_either (True is_postfix) (each_made Any (True is_postfix) named (λ c h. postfix_named c) (each_any _))
-      (each_either (True is_postfix) (λ c ws l. postfix_constant l.0.line l.0.kind c l.2) (each_made Any (True is_postfix) paren (λ c h. postfix_node (Expr-F.Paren c.0 c.1.0) c.1.1) (each_any _)))
+      (each_either (True is_postfix) (λ c ws l. postfix_constant l.0.line l.0.kind c l.2)
+      (each_made Any (True is_postfix) paren (λ c h. postfix_node (Expr-F.Paren c.0 c.1.0) c.1.1) (each_any _)))
 
   pub postfix_postfix : Each (True is_postfix) (IsPostfix G)
-  postfix_postfix = each_either (True is_postfix) postfix_primary (each_made Any (True is_postfix) (λ c. postfix c.0 c.1) (λ c h. postfix_node _ c.0.1) (each_any _))
+  postfix_postfix = each_either (True is_postfix) postfix_primary
+      (each_made Any (True is_postfix) (λ c. postfix c.0 c.1) (λ c h. postfix_node _ c.0.1) (each_any _))
 
   unary_primary : Each (True is_unary) (IsPrimary G)
   unary_primary = each_either (True is_unary) (each_made Any (True is_unary) named (λ c h. unary_named c) (each_any _))
-      (each_either (True is_unary) (λ c ws l. unary_constant l.0.line l.0.kind c l.2) (each_made Any (True is_unary) paren (λ c h. unary_node (Expr-F.Paren c.0 c.1.0) c.1.1) (each_any _)))
+      (each_either (True is_unary) (λ c ws l. unary_constant l.0.line l.0.kind c l.2)
+      (each_made Any (True is_unary) paren (λ c h. unary_node (Expr-F.Paren c.0 c.1.0) c.1.1) (each_any _)))
 
   pub unary_postfix : Each (True is_unary) (IsPostfix G)
   unary_postfix = each_either (True is_unary) unary_primary (each_made Any (True is_unary) (λ c. postfix c.0 c.1) (λ c h. unary_node _ c.0.1) (each_any _))
 
   condition_primary : Each (True is_condition) (IsPrimary G)
   condition_primary = each_either (True is_condition) (each_made Any (True is_condition) named (λ c h. condition_named c) (each_any _))
-      (each_either (True is_condition) (λ c ws l. condition_constant l.0.line l.0.kind c l.2) (each_made Any (True is_condition) paren (λ c h. condition_node (Expr-F.Paren c.0 c.1.0) c.1.1) (each_any _)))
+      (each_either (True is_condition) (λ c ws l. condition_constant l.0.line l.0.kind c l.2)
+      (each_made Any (True is_condition) paren (λ c h. condition_node (Expr-F.Paren c.0 c.1.0) c.1.1) (each_any _)))
 
   pub condition_postfix : Each (True is_condition) (IsPostfix G)
-  condition_postfix = each_either (True is_condition) condition_primary (each_made Any (True is_condition) (λ c. postfix c.0 c.1) (λ c h. condition_node _ c.0.1) (each_any _))
+  condition_postfix = each_either (True is_condition) condition_primary
+      (each_made Any (True is_condition) (λ c. postfix c.0 c.1) (λ c h. condition_node _ c.0.1) (each_any _))
 
   pub unary_unary : Each (True is_unary) (IsUnary G)
   unary_unary = each_either (True is_unary) unary_postfix (each_either (True is_unary)
@@ -105,7 +112,8 @@ module _ (G : Rank → Lang Sized) where
       (each_made Any (True is_condition) unary (λ c h. condition_node (Expr-F.Unary c.0.1 c.0.0 c.1.0) c.1.1) (each_any _)))
 
   condition_cast : Each (True is_condition) (IsCast G)
-  condition_cast = each_either (True is_condition) condition_unary (each_made Any (True is_condition) cast (λ c h. condition_node (Expr-F.Cast c.0 c.1.0.0 c.1.1.0) 0) (each_any _))
+  condition_cast = each_either (True is_condition) condition_unary
+      (each_made Any (True is_condition) cast (λ c h. condition_node (Expr-F.Cast c.0 c.1.0.0 c.1.1.0) 0) (each_any _))
 
   condition_level : (q : Precedence) (R L : Lang Sized) → Each (True is_condition) L → Each (True is_condition) (either L (joined G q R))
   condition_level q R L m = each_either (True is_condition) m (each_made Any (True is_condition) (λ c. binary c.0 c.1) (λ c h. condition_node _ 0) (each_any _))
@@ -143,8 +151,10 @@ module _ (G : Rank → Lang Sized) where
   -- of a rank, what passes the test is of the rank below
   only_postfix : (c : Sized) (ws : List Token) → IsUnary G c ws → is_postfix c ≡ true → IsPostfix G c ws
   only_postfix c ws (inl l) h = l
-  only_postfix c ws (inr (inl (d, e, l))) h = absurd (let x : false ≡ true = sym (ap is_postfix e ∙ postfix_node (Expr-F.Prefix d.0.1 d.0.0 d.1.0) d.1.1) ∙ h in cc)
-  only_postfix c ws (inr (inr (d, e, l))) h = absurd (let x : false ≡ true = sym (ap is_postfix e ∙ postfix_node (Expr-F.Unary d.0.1 d.0.0 d.1.0) d.1.1) ∙ h in cc)
+  only_postfix c ws (inr (inl (d, e, l))) h = absurd (let x : false ≡ true = sym (ap is_postfix e ∙ postfix_node (Expr-F.Prefix d.0.1 d.0.0 d.1.0) d.1.1) ∙ h
+      in cc)
+  only_postfix c ws (inr (inr (d, e, l))) h = absurd (let x : false ≡ true = sym (ap is_postfix e ∙ postfix_node (Expr-F.Unary d.0.1 d.0.0 d.1.0) d.1.1) ∙ h
+      in cc)
 
   only_postfix_cast : (c : Sized) (ws : List Token) → IsCast G c ws → is_postfix c ≡ true → IsPostfix G c ws
   only_postfix_cast c ws (inl l) h = only_postfix c ws l h
@@ -158,7 +168,8 @@ module _ (G : Rank → Lang Sized) where
   only_cast c ws (inl l) h = l
   only_cast c ws (inr (d, e, l)) h = absurd (let x : false ≡ true = sym (ap is_unary e ∙ unary_node (Expr-F.Cast d.0 d.1.0.0 d.1.1.0) 0) ∙ h in cc)
 
-  only_level : (q : Precedence) (R L : Lang Sized) → ((c : Sized) (ws : List Token) → L c ws → is_unary c ≡ true → IsUnary G c ws) → (c : Sized) (ws : List Token) → either L (joined G q R) c ws → is_unary c ≡ true → IsUnary G c ws
+  only_level : (q : Precedence) (R L : Lang Sized) → ((c : Sized) (ws : List Token) → L c ws → is_unary c ≡ true → IsUnary G c ws)
+      → (c : Sized) (ws : List Token) → either L (joined G q R) c ws → is_unary c ≡ true → IsUnary G c ws
   only_level q R L f c ws (inl l) h = f c ws l h
   only_level q R L f c ws (inr (d, e, l)) h = absurd (let x : false ≡ true = sym (ap is_unary e ∙ unary_node _ 0) ∙ h in cc)
 
@@ -218,7 +229,8 @@ module _ (G : Rank → Lang Sized) where
   opened_cast c us ((l, o), e, (us1, us2, e2, s, inl (d, e3, k))) = inr ((l, d), e ∙ ap (λ z. opened (l, z)) e3, (us1, us2, e2, s, k))
   opened_cast c us ((l, o), e, (us1, us2, e2, s, inr (d, e3, k))) = inl (inl (inl (inr (inr ((l, d), e ∙ ap (λ z. opened (l, z)) e3, (us1, us2, e2, s, k))))))
 
-  cast_opened : (c : Sized) (us : List Token) → made cast (both (sign (punct p.OpenParen)) (both (trail (IsSpecifiers (G Conditional)) (punct p.CloseParen)) (G Cast))) c us → CastOrParenL G c us
+  cast_opened : (c : Sized) (us : List Token)
+      → made cast (both (sign (punct p.OpenParen)) (both (trail (IsSpecifiers (G Conditional)) (punct p.CloseParen)) (G Cast))) c us → CastOrParenL G c us
   cast_opened c us (d, e, (us1, us2, e2, s, k)) = ((d.0, Typed d.1), e, (us1, us2, e2, s, inl (d.1, refl, k)))
 
   paren_opened : (c : Sized) (us : List Token) → ParenL G c us → CastOrParenL G c us
@@ -242,18 +254,21 @@ module _ (G : Rank → Lang Sized) where
   prefix_operand true c us l = inr l
   prefix_operand false c us l = inr l
 
-  unary_out : (b : Bool) (up : (c : Sized) (us : List Token) → G Postfix c us → such is_postfix (G (Low b)) c us) (c : Sized) (us : List Token) → IsUnary G c us → either (OperandL G b) (Stepped (G (Low b))) c us
+  unary_out : (b : Bool) (up : (c : Sized) (us : List Token) → G Postfix c us → such is_postfix (G (Low b)) c us) (c : Sized) (us : List Token) → IsUnary G c us
+      → either (OperandL G b) (Stepped (G (Low b))) c us
   unary_out b up c us (inl (inl l)) = inl (primary_operand b c us l)
   unary_out b up c us (inl (inr (d, e, (us1, us2, e2, k, s)))) = inr (d, e, (us1, us2, e2, up d.0 us1 k, s))
   unary_out b up c us (inr (inl l)) = inl (prefix_operand b c us (inl l))
   unary_out b up c us (inr (inr l)) = inl (prefix_operand b c us (inr (inl l)))
 
-  pub rank_out : (b : Bool) (up : (c : Sized) (us : List Token) → G Postfix c us → such is_postfix (G (Low b)) c us) (c : Sized) (us : List Token) → IsRank G (Low b) c us → either (OperandL G b) (Stepped (G (Low b))) c us
+  pub rank_out : (b : Bool) (up : (c : Sized) (us : List Token) → G Postfix c us → such is_postfix (G (Low b)) c us) (c : Sized) (us : List Token)
+      → IsRank G (Low b) c us → either (OperandL G b) (Stepped (G (Low b))) c us
   rank_out true up c us (inl l) = unary_out true up c us l
   rank_out true up c us (inr l) = inl (inl (cast_opened c us l))
   rank_out false up c us l = unary_out false up c us l
 
-  pub rank_into : (b : Bool) (down : (c : Sized) (us : List Token) → such is_postfix (G (Low b)) c us → G Postfix c us) (c : Sized) (us : List Token) → either (OperandL G b) (Stepped (G (Low b))) c us → IsRank G (Low b) c us
+  pub rank_into : (b : Bool) (down : (c : Sized) (us : List Token) → such is_postfix (G (Low b)) c us → G Postfix c us) (c : Sized) (us : List Token)
+      → either (OperandL G b) (Stepped (G (Low b))) c us → IsRank G (Low b) c us
   rank_into b down c us (inl l) = operand_into b c us l
   rank_into true down c us (inr (d, e, (us1, us2, e2, k, s))) = inl (inl (inr (d, e, (us1, us2, e2, down d.0 us1 k, s))))
   rank_into false down c us (inr (d, e, (us1, us2, e2, k, s))) = inl (inr (d, e, (us1, us2, e2, down d.0 us1 k, s)))

@@ -7,8 +7,13 @@ use Rattle.c_parse.specs.declared.precedence.Precedence.{Precedence}
 use Rattle.c_parse.specs.declared.precedence.Precedence.TheVariants.{LogicalOr, LogicalAnd, Or, Xor, And, Equality, Relation, Shift, Sum, Product}
 use Rattle.c_parse.specs.Classes.{punct, word}
 use Rattle.c_parse.specs.Languages.{Lang, sign, among, both, either, made, optional, lead, trail}
-use Rattle.c_parse.specs.Trees.{Sized, add, one, all_or_none, Suffix, Subscript, Arguments, named, paren, postfix, prefix, unary, cast, binary, conditional, assign, comma, enumerator, EnumRest, Tagged, Untagged, enum, specifier_word, first_specifier, next_specifier, specifiers}
-use Rattle.c_parse.specs.Expressions.{Rank, Comma, Assignment, Conditional, Binary, Cast, Unary, Postfix, operators, assignment_operators, steps, unary_operators, specifier_words, identifier, constant, braced, row, IsEnumerator, IsSpecifier, IsSpecifiers, IsSuffix, IsPrimary, IsPostfix, IsUnary, IsCast, joined, IsProduct, IsSum, IsShift, IsRelation, IsEquality, IsAnd, IsXor, IsOr, IsLogicalAnd, IsLogicalOr, IsConditional, IsAssignment, IsComma, IsRank}
+use Rattle.c_parse.specs.Trees.{Sized, add, one, all_or_none, Suffix, Subscript, Arguments, named, paren, postfix, prefix, unary, cast, binary}
+use Rattle.c_parse.specs.Trees.{conditional, assign, comma, enumerator, EnumRest, Tagged, Untagged, enum, specifier_word, first_specifier}
+use Rattle.c_parse.specs.Trees.{next_specifier, specifiers}
+use Rattle.c_parse.specs.Expressions.{Rank, Comma, Assignment, Conditional, Binary, Cast, Unary, Postfix, operators, assignment_operators, steps}
+use Rattle.c_parse.specs.Expressions.{unary_operators, specifier_words, identifier, constant, braced, row, IsEnumerator, IsSpecifier, IsSpecifiers}
+use Rattle.c_parse.specs.Expressions.{IsSuffix, IsPrimary, IsPostfix, IsUnary, IsCast, joined, IsProduct, IsSum, IsShift, IsRelation, IsEquality, IsAnd}
+use Rattle.c_parse.specs.Expressions.{IsXor, IsOr, IsLogicalAnd, IsLogicalOr, IsConditional, IsAssignment, IsComma, IsRank}
 use Rattle.c_parse.specs.ExpressionReaders.{Opened, Typed, Inner, opened}
 use Rattle.c_parse.proofs.Operands.{ParenL, CastOrParenL, PrefixedL, OperandL}
 use Rattle.c_parse.proofs.Maps.{On, Any, Opt, on_same, on_made, on_both, on_either, on_optional, on_lead, on_trail, on_built}
@@ -61,7 +66,8 @@ module _ (n : ℕ) {E F : Lang Sized} (f : On (Low n) E F) where
   on_enumerators : On (Low n) (braced (row (IsEnumerator E))) (braced (row (IsEnumerator F)))
   on_enumerators = on_inside (Low n) (punct p.OpenBrace) (punct p.CloseBrace) (on_row n
       (on_made (λ c. Opt (Low n) c.1) (Low n) enumerator enumerator_low
-      (on_both Any (Opt (Low n)) (λ c. Opt (Low n) c.1) (λ c h. tt) (λ c h. h) (on_same Any identifier) (on_optional (Low n) (on_lead (Low n) (punct p.Equals) f)))))
+      (on_both Any (Opt (Low n)) (λ c. Opt (Low n) c.1) (λ c h. tt) (λ c h. h) (on_same Any identifier)
+      (on_optional (Low n) (on_lead (Low n) (punct p.Equals) f)))))
 
   on_specifier : On (Low n) (IsSpecifier E) (IsSpecifier F)
   on_specifier = on_either (Low n) (on_same (Low n) (made specifier_word (among specifier_words)))
@@ -74,7 +80,8 @@ module _ (n : ℕ) {E F : Lang Sized} (f : On (Low n) E F) where
 
   pub on_specifiers : On (Low n) (IsSpecifiers E) (IsSpecifiers F)
   on_specifiers = on_made (λ c. c.1.1 ≤ n) (Low n) specifiers (λ c h. h)
-      (on_built (λ c. c.1.1 ≤ n) (Low n) next_specifier (λ a b h. add_parts n a.1 b h) (on_made (Low n) (λ c. c.1.1 ≤ n) first_specifier (λ c h. h) on_specifier) on_specifier)
+      (on_built (λ c. c.1.1 ≤ n) (Low n) next_specifier (λ a b h. add_parts n a.1 b h)
+      (on_made (Low n) (λ c. c.1.1 ≤ n) first_specifier (λ c h. h) on_specifier) on_specifier)
 
 -- an expression of parts in G has its parts in H, where all of G of height n at most is in H
 module _ (n : ℕ) {G H : Rank → Lang Sized} (f : (r : Rank) → On (Low n) (G r) (H r)) where
@@ -117,10 +124,12 @@ module _ (n : ℕ) {G H : Rank → Lang Sized} (f : (r : Rank) → On (Low n) (G
       (on_both (Low n) Any (λ c. c.0.1 ≤ n) (λ c h. h) (λ c h. tt) (f Postfix) (on_same Any (among steps))))
 
   on_prefix : On (Low (suc n)) (made prefix (both (among steps) (G Unary))) (made prefix (both (among steps) (H Unary)))
-  on_prefix = on_made (λ c. c.1.1 ≤ n) (Low (suc n)) prefix (λ c h. under c.1.1 h) (on_both Any (Low n) (λ c. c.1.1 ≤ n) (λ c h. tt) (λ c h. h) (on_same Any (among steps)) (f Unary))
+  on_prefix = on_made (λ c. c.1.1 ≤ n) (Low (suc n)) prefix (λ c h. under c.1.1 h)
+      (on_both Any (Low n) (λ c. c.1.1 ≤ n) (λ c h. tt) (λ c h. h) (on_same Any (among steps)) (f Unary))
 
   on_sign : On (Low (suc n)) (made unary (both (among unary_operators) (G Cast))) (made unary (both (among unary_operators) (H Cast)))
-  on_sign = on_made (λ c. c.1.1 ≤ n) (Low (suc n)) unary (λ c h. under c.1.1 h) (on_both Any (Low n) (λ c. c.1.1 ≤ n) (λ c h. tt) (λ c h. h) (on_same Any (among unary_operators)) (f Cast))
+  on_sign = on_made (λ c. c.1.1 ≤ n) (Low (suc n)) unary (λ c h. under c.1.1 h)
+      (on_both Any (Low n) (λ c. c.1.1 ≤ n) (λ c h. tt) (λ c h. h) (on_same Any (among unary_operators)) (f Cast))
 
   on_unary : On (Low (suc n)) (IsUnary G) (IsUnary H)
   on_unary = on_either (Low (suc n)) on_postfix (on_either (Low (suc n)) on_prefix on_sign)
@@ -129,7 +138,8 @@ module _ (n : ℕ) {G H : Rank → Lang Sized} (f : (r : Rank) → On (Low n) (G
   on_cast = on_either (Low (suc n)) on_unary
       (on_made (λ c. Low n c.1.0 × Low n c.1.1) (Low (suc n)) cast (λ c h. (under_left c.1.0.1 c.1.1.1 h, under_right c.1.0.1 c.1.1.1 h))
       (on_both Any (λ d. Low n d.0 × Low n d.1) (λ c. Low n c.1.0 × Low n c.1.1) (λ c h. tt) (λ c h. h) (on_same Any (sign (punct p.OpenParen)))
-      (on_both (Low n) (Low n) (λ d. Low n d.0 × Low n d.1) (λ c h. h.0) (λ c h. h.1) (on_trail (Low n) (punct p.CloseParen) (on_specifiers n (f Conditional))) (f Cast))))
+      (on_both (Low n) (Low n) (λ d. Low n d.0 × Low n d.1) (λ c h. h.0) (λ c h. h.1) (on_trail (Low n) (punct p.CloseParen) (on_specifiers n (f Conditional)))
+      (f Cast))))
 
   opened_low : (c : ℕ × Opened) → (opened c).1 ≤ suc n → opened_height c.1 ≤ n
   opened_low (l, Typed c) h = under (max c.0.1 c.1.1) h
@@ -140,7 +150,8 @@ module _ (n : ℕ) {G H : Rank → Lang Sized} (f : (r : Rank) → On (Low n) (G
       (on_both Any (λ o. opened_height o ≤ n) (λ c. opened_height c.1 ≤ n) (λ c h. tt) (λ c h. h) (on_same Any (sign (punct p.OpenParen)))
       (on_either (λ o. opened_height o ≤ n)
       (on_made (λ d. Low n d.0 × Low n d.1) (λ o. opened_height o ≤ n) Typed (λ c h. (omega (arith, h), omega (arith, h)))
-      (on_both (Low n) (Low n) (λ d. Low n d.0 × Low n d.1) (λ c h. h.0) (λ c h. h.1) (on_trail (Low n) (punct p.CloseParen) (on_specifiers n (f Conditional))) (f Cast)))
+      (on_both (Low n) (Low n) (λ d. Low n d.0 × Low n d.1) (λ c h. h.0) (λ c h. h.1) (on_trail (Low n) (punct p.CloseParen) (on_specifiers n (f Conditional)))
+      (f Cast)))
       (on_made (Low n) (λ o. opened_height o ≤ n) Inner (λ c h. h) on_inner)))
 
   on_prefixed : On (Low (suc n)) (PrefixedL G) (PrefixedL H)
@@ -155,7 +166,8 @@ module _ (n : ℕ) {G H : Rank → Lang Sized} (f : (r : Rank) → On (Low n) (G
       (on_both (Low n) (λ d. Low n d.1) (λ c. Low n c.0 × Low n c.1.1) (λ c h. h.0) (λ c h. h.1) (f (Binary q))
       (on_both Any (Low n) (λ d. Low n d.1) (λ c h. tt) (λ c h. h) (on_same Any (among (operators q))) (f r)))
 
-  on_level : (q : Precedence) (r : Rank) {L M : Lang Sized} → On (Low (suc n)) L M → On (Low (suc n)) (either L (joined G q (G r))) (either M (joined H q (H r)))
+  on_level : (q : Precedence) (r : Rank) {L M : Lang Sized} → On (Low (suc n)) L M
+      → On (Low (suc n)) (either L (joined G q (G r))) (either M (joined H q (H r)))
   on_level q r m = on_either (Low (suc n)) m (on_joined q r)
 
   on_product : On (Low (suc n)) (IsProduct G) (IsProduct H)
@@ -190,9 +202,11 @@ module _ (n : ℕ) {G H : Rank → Lang Sized} (f : (r : Rank) → On (Low n) (G
 
   on_conditional : On (Low (suc n)) (IsConditional G) (IsConditional H)
   on_conditional = on_either (Low (suc n)) on_logical_or
-      (on_made (λ c. Low n c.0 × (Low n c.1.0 × Low n c.1.1)) (Low (suc n)) (λ c. conditional c.0 c.1) (λ c h. (omega (arith, h), (omega (arith, h), omega (arith, h))))
+      (on_made (λ c. Low n c.0 × (Low n c.1.0 × Low n c.1.1)) (Low (suc n)) (λ c. conditional c.0 c.1)
+      (λ c h. (omega (arith, h), (omega (arith, h), omega (arith, h))))
       (on_both (Low n) (λ d. Low n d.0 × Low n d.1) (λ c. Low n c.0 × (Low n c.1.0 × Low n c.1.1)) (λ c h. h.0) (λ c h. h.1) (f (Binary LogicalOr))
-      (on_both (Low n) (Low n) (λ d. Low n d.0 × Low n d.1) (λ c h. h.0) (λ c h. h.1) (on_lead (Low n) (punct p.Question) (f Comma)) (on_lead (Low n) (punct p.Colon) (f Conditional)))))
+      (on_both (Low n) (Low n) (λ d. Low n d.0 × Low n d.1) (λ c h. h.0) (λ c h. h.1) (on_lead (Low n) (punct p.Question) (f Comma))
+      (on_lead (Low n) (punct p.Colon) (f Conditional)))))
 
   on_assignment : On (Low (suc n)) (IsAssignment G) (IsAssignment H)
   on_assignment = on_either (Low (suc n)) on_conditional

@@ -21,7 +21,8 @@ level_of Or = 7
 level_of LogicalAnd = 8
 level_of LogicalOr = 9
 
-pub binary_is : (n : ℕ) (r : Rank → List Token → Reply Sized) (q : Precedence) → read_binary n r q ≡ read_level n r q (read_rank n r (rank_below q)) (r (operand_rank q))
+pub binary_is : (n : ℕ) (r : Rank → List Token → Reply Sized) (q : Precedence)
+    → read_binary n r q ≡ read_level n r q (read_rank n r (rank_below q)) (r (operand_rank q))
 binary_is n r LogicalOr = refl
 binary_is n r LogicalAnd = refl
 binary_is n r Or = refl

@@ -24,7 +24,8 @@ on_same P L a ws l h = l
 pub on_made : {A B : Type 0} (P : A → Type 0) (Q : B → Type 0) (f : A → B) {L M : Lang A} → ((a : A) → Q (f a) → P a) → On P L M → On Q (made f L) (made f M)
 on_made P Q f k m b ws (a, e, l) h = (a, e, m a ws l (k a (subst Q e h)))
 
-pub on_both : {A B : Type 0} (P : A → Type 0) (Q : B → Type 0) (S : A × B → Type 0) {L L' : Lang A} {M M' : Lang B} → ((c : A × B) → S c → P c.0) → ((c : A × B) → S c → Q c.1) → On P L L' → On Q M M' → On S (both L M) (both L' M')
+pub on_both : {A B : Type 0} (P : A → Type 0) (Q : B → Type 0) (S : A × B → Type 0) {L L' : Lang A} {M M' : Lang B} → ((c : A × B) → S c → P c.0)
+    → ((c : A × B) → S c → Q c.1) → On P L L' → On Q M M' → On S (both L M) (both L' M')
 on_both P Q S k j m n c ws (us, vs, e, l, r) h = (us, vs, e, m c.0 us l (k c h), n c.1 vs r (j c h))
 
 pub on_either : {A : Type 0} (P : A → Type 0) {L L' M M' : Lang A} → On P L L' → On P M M' → On P (either L M) (either L' M')
@@ -50,13 +51,16 @@ unfolding All
 on_many Q m [] ws l h = l
 on_many Q m (x ∷ xs) ws (us, vs, e, l, r) h = (us, vs, e, m x us l h.0, on_many Q m xs vs r h.1)
 
-parts : {A B : Type 0} (P : A → Type 0) (Q : B → Type 0) (g : A → B → A) → ((a : A) (b : B) → P (g a b) → P a × Q b) → (a : A) (xs : List B) → P (from_left g a xs) → P a × All Q xs
+parts : {A B : Type 0} (P : A → Type 0) (Q : B → Type 0) (g : A → B → A) → ((a : A) (b : B) → P (g a b) → P a × Q b) → (a : A) (xs : List B)
+    → P (from_left g a xs) → P a × All Q xs
 unfolding All
 parts P Q g k a [] h = (h, tt)
 parts P Q g k a (x ∷ xs) h = let r = parts P Q g k (g a x) xs h in let d = k a x r.0 in (d.0, (d.1, r.1))
 
-pub on_built : {A B : Type 0} (P : A → Type 0) (Q : B → Type 0) (g : A → B → A) {F F' : Lang A} {T T' : Lang B} → ((a : A) (b : B) → P (g a b) → P a × Q b) → On P F F' → On Q T T' → On P (built g F T) (built g F' T')
-on_built P Q g k m n a ws ((x, xs), e, (us, vs, e2, l, r)) h = let d = parts P Q g k x xs (subst P e h) in ((x, xs), e, (us, vs, e2, m x us l d.0, on_many Q n xs vs r d.1))
+pub on_built : {A B : Type 0} (P : A → Type 0) (Q : B → Type 0) (g : A → B → A) {F F' : Lang A} {T T' : Lang B} → ((a : A) (b : B) → P (g a b) → P a × Q b)
+    → On P F F' → On Q T T' → On P (built g F T) (built g F' T')
+on_built P Q g k m n a ws ((x, xs), e, (us, vs, e2, l, r)) h = let d = parts P Q g k x xs (subst P e h)
+    in ((x, xs), e, (us, vs, e2, m x us l d.0, on_many Q n xs vs r d.1))
 
 pub each_any : {A : Type 0} (L : Lang A) → Each Any L
 each_any L a ws l = tt
@@ -81,9 +85,11 @@ each_lead P k m = each_made (λ c. Unit {0} × P c.1) P (λ c. c.1) (λ c h. h.1
 pub each_trail : {A : Type 0} (P : A → Type 0) (k : ℕ) {L : Lang A} → Each P L → Each P (trail L k)
 each_trail P k m = each_made (λ c. P c.0 × Unit {0}) P (λ c. c.0) (λ c h. h.0) (each_both P Any m (each_any (sign k)))
 
-each_many : {A B : Type 0} (P : A → Type 0) (Q : B → Type 0) (g : A → B → A) {T : Lang B} → ((a : A) (b : B) → P a → Q b → P (g a b)) → Each Q T → (a : A) (xs : List B) (ws : List Token) → P a → many T xs ws → P (from_left g a xs)
+each_many : {A B : Type 0} (P : A → Type 0) (Q : B → Type 0) (g : A → B → A) {T : Lang B} → ((a : A) (b : B) → P a → Q b → P (g a b)) → Each Q T
+    → (a : A) (xs : List B) (ws : List Token) → P a → many T xs ws → P (from_left g a xs)
 each_many P Q g k m a [] ws h l = h
 each_many P Q g k m a (x ∷ xs) ws h (us, vs, e, l, r) = each_many P Q g k m (g a x) xs vs (k a x h (m x us l)) r
 
-pub each_built : {A B : Type 0} (P : A → Type 0) (Q : B → Type 0) (g : A → B → A) {F : Lang A} {T : Lang B} → ((a : A) (b : B) → P a → Q b → P (g a b)) → Each P F → Each Q T → Each P (built g F T)
+pub each_built : {A B : Type 0} (P : A → Type 0) (Q : B → Type 0) (g : A → B → A) {F : Lang A} {T : Lang B} → ((a : A) (b : B) → P a → Q b → P (g a b))
+    → Each P F → Each Q T → Each P (built g F T)
 each_built P Q g k m n a ws ((x, xs), e, (us, vs, e2, l, r)) = subst P (sym e) (each_many P Q g k n x xs vs (m x us l) r)

@@ -1,5 +1,6 @@
 -- Tests on the class at the front of a list of tokens.
-use Rattle.std.proofs.Common.{ℕ, ◌≡◌, refl, sym, ◌∙◌, subst, Bool, true, false, nat_eq, if◌then◌else◌, List, [], ◌∷◌, ◌++◌, Option, Some, None, is_some, eq-eqb, eqb-true}
+use Rattle.std.proofs.Common.{ℕ, ◌≡◌, refl, sym, ◌∙◌, subst, Bool, true, false, nat_eq, if◌then◌else◌, List, [], ◌∷◌, ◌++◌, Option, Some, None, is_some}
+use Rattle.std.proofs.Common.{eq-eqb, eqb-true}
 use Rattle.c_tree.specs.declared.token.Token.{Token}
 use Rattle.c_parse.specs.Classes.{class, look, member, row_of, classes}
 use Rattle.c_parse.specs.Languages.{line_if, lined}
@@ -35,7 +36,8 @@ pub member-subset : (k : ℕ) (xs ys : List ℕ) → subset xs ys ≡ true → m
 member-subset k [] ys s h = cc
 member-subset k (x ∷ xs) ys s h = go (both_true (member x ys) (subset xs ys) s) (member-subset k xs ys) (nat_eq k x) refl h
   where
-    go : (member x ys ≡ true) × (subset xs ys ≡ true) → (subset xs ys ≡ true → member k xs ≡ true → member k ys ≡ true) → (b : Bool) → nat_eq k x ≡ b → (if b then true else member k xs) ≡ true → member k ys ≡ true
+    go : (member x ys ≡ true) × (subset xs ys ≡ true) → (subset xs ys ≡ true → member k xs ≡ true → member k ys ≡ true) → (b : Bool) → nat_eq k x ≡ b
+        → (if b then true else member k xs) ≡ true → member k ys ≡ true
     go p ih true e h = subst (λ z. member z ys ≡ true) (sym (eqb-true k x e)) p.0
     go p ih false e h = ih p.1 h
 
@@ -43,7 +45,8 @@ pub member-apart : (k : ℕ) (xs ys : List ℕ) → apart xs ys ≡ true → mem
 member-apart k [] ys s h = cc
 member-apart k (x ∷ xs) ys s h = go (none_true (member x ys) (apart xs ys) s) (member-apart k xs ys) (nat_eq k x) refl h
   where
-    go : (member x ys ≡ false) × (apart xs ys ≡ true) → (apart xs ys ≡ true → member k xs ≡ true → member k ys ≡ false) → (b : Bool) → nat_eq k x ≡ b → (if b then true else member k xs) ≡ true → member k ys ≡ false
+    go : (member x ys ≡ false) × (apart xs ys ≡ true) → (apart xs ys ≡ true → member k xs ≡ true → member k ys ≡ false) → (b : Bool) → nat_eq k x ≡ b
+        → (if b then true else member k xs) ≡ true → member k ys ≡ false
     go p ih true e h = subst (λ z. member z ys ≡ false) (sym (eqb-true k x e)) p.0
     go p ih false e h = ih p.1 h
 
@@ -51,7 +54,8 @@ pub member-left : (k : ℕ) (xs ys : List ℕ) → member k xs ≡ true → memb
 member-left k [] ys h = cc
 member-left k (x ∷ xs) ys h = go (member-left k xs ys) (nat_eq k x) h
   where
-    go : (member k xs ≡ true → member k (xs ++ ys) ≡ true) → (b : Bool) → (if b then true else member k xs) ≡ true → (if b then true else member k (xs ++ ys)) ≡ true
+    go : (member k xs ≡ true → member k (xs ++ ys) ≡ true) → (b : Bool) → (if b then true else member k xs) ≡ true
+        → (if b then true else member k (xs ++ ys)) ≡ true
     go ih true h = refl
     go ih false h = ih h
 
@@ -71,7 +75,8 @@ pub row_exact : {A : Type 0} (k : ℕ) (table : List (ℕ × A)) → member k (c
 row_exact k [] = refl
 row_exact k (x ∷ xs) = go (row_exact k xs) (nat_eq k x.0)
   where
-    go : member k (classes xs) ≡ is_some (row_of k xs) → (b : Bool) → (if b then true else member k (classes xs)) ≡ is_some (if b then Some x.1 else row_of k xs)
+    go : member k (classes xs) ≡ is_some (row_of k xs) → (b : Bool)
+        → (if b then true else member k (classes xs)) ≡ is_some (if b then Some x.1 else row_of k xs)
     go ih true = refl
     go ih false = ih
 

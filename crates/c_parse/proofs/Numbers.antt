@@ -86,10 +86,14 @@ word_above w.While = lit< tt
 
 -- the punctuators and the words by their numbers
 puncts : List Punct
-puncts = p.OpenParen ∷ p.CloseParen ∷ p.OpenBracket ∷ p.CloseBracket ∷ p.OpenBrace ∷ p.CloseBrace ∷ p.Comma ∷ p.Semicolon ∷ p.Colon ∷ p.Question ∷ p.Tilde ∷ p.Plus ∷ p.Minus ∷ p.Star ∷ p.Slash ∷ p.Percent ∷ p.Ampersand ∷ p.Bar ∷ p.Caret ∷ p.Exclamation ∷ p.Less ∷ p.Greater ∷ p.Equals ∷ p.Increment ∷ p.Decrement ∷ p.ShiftLeft ∷ p.ShiftRight ∷ p.LessEqual ∷ p.GreaterEqual ∷ p.EqualEqual ∷ p.NotEqual ∷ p.AndAnd ∷ p.OrOr ∷ p.AddAssign ∷ p.SubtractAssign ∷ p.MultiplyAssign ∷ p.DivideAssign ∷ p.RemainderAssign ∷ p.AndAssign ∷ p.OrAssign ∷ p.XorAssign ∷ p.ShiftLeftAssign ∷ p.ShiftRightAssign ∷ []
+puncts = p.OpenParen ∷ p.CloseParen ∷ p.OpenBracket ∷ p.CloseBracket ∷ p.OpenBrace ∷ p.CloseBrace ∷ p.Comma ∷ p.Semicolon ∷ p.Colon ∷ p.Question ∷ p.Tilde ∷
+    p.Plus ∷ p.Minus ∷ p.Star ∷ p.Slash ∷ p.Percent ∷ p.Ampersand ∷ p.Bar ∷ p.Caret ∷ p.Exclamation ∷ p.Less ∷ p.Greater ∷ p.Equals ∷ p.Increment ∷ p.Decrement
+    ∷ p.ShiftLeft ∷ p.ShiftRight ∷ p.LessEqual ∷ p.GreaterEqual ∷ p.EqualEqual ∷ p.NotEqual ∷ p.AndAnd ∷ p.OrOr ∷ p.AddAssign ∷ p.SubtractAssign ∷
+    p.MultiplyAssign ∷ p.DivideAssign ∷ p.RemainderAssign ∷ p.AndAssign ∷ p.OrAssign ∷ p.XorAssign ∷ p.ShiftLeftAssign ∷ p.ShiftRightAssign ∷ []
 
 words : List Reserved
-words = w.Auto ∷ w.Break ∷ w.Case ∷ w.Char ∷ w.Const ∷ w.Continue ∷ w.Default ∷ w.Do ∷ w.Else ∷ w.Enum ∷ w.Extern ∷ w.For ∷ w.If ∷ w.Int ∷ w.Long ∷ w.Register ∷ w.Return ∷ w.Short ∷ w.Signed ∷ w.Static ∷ w.Switch ∷ w.Unsigned ∷ w.Void ∷ w.While ∷ []
+words = w.Auto ∷ w.Break ∷ w.Case ∷ w.Char ∷ w.Const ∷ w.Continue ∷ w.Default ∷ w.Do ∷ w.Else ∷ w.Enum ∷ w.Extern ∷ w.For ∷ w.If ∷ w.Int ∷ w.Long ∷ w.Register ∷
+    w.Return ∷ w.Short ∷ w.Signed ∷ w.Static ∷ w.Switch ∷ w.Unsigned ∷ w.Void ∷ w.While ∷ []
 
 from_class : ℕ → Punct
 from_class k = get_or puncts (k - 10) p.OpenParen

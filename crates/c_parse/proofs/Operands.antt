@@ -18,7 +18,8 @@ module _ (G : Rank → Lang Sized) where
   CastOrParenL = made opened (both (sign (punct p.OpenParen)) OpenedL)
 
   abbrev pub PrefixedL : Lang Sized
-  PrefixedL = either (made prefix (both (among steps) (G Unary))) (either (made unary (both (among unary_operators) (G Cast))) (either (made named (both identifier (optional (IsSuffix G)))) constant))
+  PrefixedL = either (made prefix (both (among steps) (G Unary)))
+      (either (made unary (both (among unary_operators) (G Cast))) (either (made named (both identifier (optional (IsSuffix G)))) constant))
 
   abbrev pub OperandL : Bool → Lang Sized
   OperandL true = either CastOrParenL PrefixedL

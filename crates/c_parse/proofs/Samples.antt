@@ -38,10 +38,12 @@ abbrev minus : Sized → Sized → Sized
 minus a b = binary a ((Subtract, 0), b)
 
 -- 7 - 2 - 1 is (7 - 2) - 1 and nothing else
-grouped_left : (e : Sized) → IsExpr 3 (Binary Sum) e (number 7 ∷ mark p.Minus ∷ number 2 ∷ mark p.Minus ∷ number 1 ∷ []) → minus (minus (leaf 7) (leaf 2)) (leaf 1) ≡ e
+grouped_left : (e : Sized) → IsExpr 3 (Binary Sum) e (number 7 ∷ mark p.Minus ∷ number 2 ∷ mark p.Minus ∷ number 1 ∷ [])
+    → minus (minus (leaf 7) (leaf 2)) (leaf 1) ≡ e
 unfolding X.out-Expr denote.Hole.Carrier.out X.roll-Expr denote.Hole.Carrier.roll
 grouped_left e l =
-    let h : read_expr 3 (Binary Sum) (number 7 ∷ mark p.Minus ∷ number 2 ∷ mark p.Minus ∷ number 1 ∷ mark p.Semicolon ∷ []) ≡ Found e (mark p.Semicolon ∷ []) = (reads_expr 3 5 (omega arith) (Binary Sum) tt).complete e _ (mark p.Semicolon ∷ []) l refl in
+    let h : read_expr 3 (Binary Sum) (number 7 ∷ mark p.Minus ∷ number 2 ∷ mark p.Minus ∷ number 1 ∷ mark p.Semicolon ∷ []) ≡ Found e (mark p.Semicolon ∷ []) =
+    (reads_expr 3 5 (omega arith) (Binary Sum) tt).complete e _ (mark p.Semicolon ∷ []) l refl in
     let q : Found (minus (minus (leaf 7) (leaf 2)) (leaf 1)) (mark p.Semicolon ∷ []) ≡ Found e (mark p.Semicolon ∷ []) = h in
     cc
 
@@ -50,10 +52,13 @@ brace_behind : (b : Bool) → member (punct p.CloseBrace) (behind_of b) ≡ true
 brace_behind true = refl
 brace_behind false = refl
 
-nearest_else : (s : Stmt) → IsStmt 3 3 s (reserved w.If ∷ mark p.OpenParen ∷ number 1 ∷ mark p.CloseParen ∷ reserved w.If ∷ mark p.OpenParen ∷ number 2 ∷ mark p.CloseParen ∷ mark p.Semicolon ∷ reserved w.Else ∷ mark p.Semicolon ∷ []) → if_only (0, ((leaf 1).0, if_else ((0, ((leaf 2).0, empty 0)), empty 0))) ≡ s
+nearest_else : (s : Stmt) → IsStmt 3 3 s (reserved w.If ∷ mark p.OpenParen ∷ number 1 ∷ mark p.CloseParen ∷ reserved w.If ∷ mark p.OpenParen ∷ number 2 ∷ mark
+    p.CloseParen ∷ mark p.Semicolon ∷ reserved w.Else ∷ mark p.Semicolon ∷ []) → if_only (0, ((leaf 1).0, if_else ((0, ((leaf 2).0, empty 0)), empty 0))) ≡ s
 unfolding X.out-Expr denote.Hole.Carrier.out X.roll-Expr denote.Hole.Carrier.roll
 nearest_else s l =
-    let h : read_stmt 3 3 (reserved w.If ∷ mark p.OpenParen ∷ number 1 ∷ mark p.CloseParen ∷ reserved w.If ∷ mark p.OpenParen ∷ number 2 ∷ mark p.CloseParen ∷ mark p.Semicolon ∷ reserved w.Else ∷ mark p.Semicolon ∷ mark p.CloseBrace ∷ []) ≡ Found s (mark p.CloseBrace ∷ []) = (reads_stmt 3 6 (omega arith) refl 3 6 (omega arith)).complete s _ (mark p.CloseBrace ∷ []) l (brace_behind _) in
+    let h : read_stmt 3 3 (reserved w.If ∷ mark p.OpenParen ∷ number 1 ∷ mark p.CloseParen ∷ reserved w.If ∷ mark p.OpenParen ∷ number 2 ∷ mark p.CloseParen ∷
+    mark p.Semicolon ∷ reserved w.Else ∷ mark p.Semicolon ∷ mark p.CloseBrace ∷ []) ≡ Found s (mark p.CloseBrace ∷ []) =
+    (reads_stmt 3 6 (omega arith) refl 3 6 (omega arith)).complete s _ (mark p.CloseBrace ∷ []) l (brace_behind _) in
     let q : Found (if_only (0, ((leaf 1).0, if_else ((0, ((leaf 2).0, empty 0)), empty 0)))) (mark p.CloseBrace ∷ []) ≡ Found s (mark p.CloseBrace ∷ []) = h in
     cc
 

@@ -2,7 +2,8 @@
 use Rattle.std.proofs.Common.{ℕ, zero, suc, ◌≡◌, ◌<◌, ◌≤◌, refl, sym, ap, Bool, true, false, if◌then◌else◌, List, [], ◌∷◌, arith, length, Some, None}
 use Rattle.c_tree.specs.declared.token.Token.{Token}
 use Rattle.c_parse.specs.Classes.{look, member}
-use Rattle.c_parse.specs.Reading.{Reply, Found, Wrong, Deep, bind, read_picked, read_both, read_made, read_either, read_optional, read_lead, read_trail, read_rest, read_row, always}
+use Rattle.c_parse.specs.Reading.{Reply, Found, Wrong, Deep, bind, read_picked, read_both, read_made, read_either, read_optional, read_lead, read_trail}
+use Rattle.c_parse.specs.Reading.{read_rest, read_row, always}
 use Rattle.c_tree.specs.declared.token.Punct.TheVariants as p
 use Rattle.c_tree.specs.declared.declaration.Shape.TheVariants as shapes
 use Rattle.c_tree.specs.declared.declaration.Initialiser.TheVariants as initialisers
@@ -28,7 +29,8 @@ keeps_bind {A} {B} {p} {k} s f ts b r e = go (p ts) refl e
     go (Wrong us) h e = absurd cc
     go (Deep us) h e = absurd cc
 
-pub shrinks_bind : {A B : Type 0} {p : List Token → Reply A} {k : A → List Token → Reply B} → Shrinks p → ((a : A) → Keeps (k a)) → Shrinks (λ ts. bind (p ts) k)
+pub shrinks_bind : {A B : Type 0} {p : List Token → Reply A} {k : A → List Token → Reply B} → Shrinks p → ((a : A) → Keeps (k a))
+    → Shrinks (λ ts. bind (p ts) k)
 shrinks_bind {A} {B} {p} {k} s f ts b r e = go (p ts) refl e
   where
     go : (x : Reply A) → p ts ≡ x → bind x k ≡ Found b r → length r < length ts
@@ -68,16 +70,20 @@ shrinks_either {A} ks {p} {q} s t ts a r e = go (member (look ts) ks) e
 pub keeps_optional : {A : Type 0} (ks : List ℕ) {p : List Token → Reply A} → Keeps p → Keeps (read_optional ks p)
 keeps_optional ks s = keeps_either ks (keeps_made Some s) (keeps_found None)
 
-pub keeps_rest : {A B : Type 0} (test fits : A → Bool) (ks : List ℕ) (g : A → B → A) {t : List Token → Reply B} → Keeps t → (k : ℕ) (a : A) → Keeps (read_rest test fits ks g t k a)
+pub keeps_rest : {A B : Type 0} (test fits : A → Bool) (ks : List ℕ) (g : A → B → A) {t : List Token → Reply B} → Keeps t → (k : ℕ) (a : A)
+    → Keeps (read_rest test fits ks g t k a)
 keeps_rest test fits ks g s zero a ts b r e = keeps_found a ts b r e
-keeps_rest {A} {B} test fits ks g {t} s (suc k) a ts b r e = go (λ c. keeps_rest test fits ks g s k c) (if test a then member (look ts) ks else false) (fits a) e
+keeps_rest {A} {B} test fits ks g {t} s (suc k) a ts b r e = go (λ c. keeps_rest test fits ks g s k c) (if test a then member (look ts) ks else false) (fits a)
+    e
   where
-    go : ((c : A) → Keeps (read_rest test fits ks g t k c)) → (x y : Bool) → (if x then (if y then bind (t ts) (λ b r. read_rest test fits ks g t k (g a b) r) else Deep ts) else Found a ts) ≡ Found b r → length r ≤ length ts
+    go : ((c : A) → Keeps (read_rest test fits ks g t k c)) → (x y : Bool)
+        → (if x then (if y then bind (t ts) (λ b r. read_rest test fits ks g t k (g a b) r) else Deep ts) else Found a ts) ≡ Found b r → length r ≤ length ts
     go ih true true e = keeps_bind s (λ c. ih (g a c)) ts b r e
     go ih true false e = absurd cc
     go ih false y e = keeps_found a ts b r e
 
-pub keeps_row : {A B : Type 0} (test fits : A → Bool) (ks : List ℕ) (g : A → B → A) {p : List Token → Reply A} {t : List Token → Reply B} → Keeps p → Keeps t → Keeps (read_row test fits ks g p t)
+pub keeps_row : {A B : Type 0} (test fits : A → Bool) (ks : List ℕ) (g : A → B → A) {p : List Token → Reply A} {t : List Token → Reply B} → Keeps p → Keeps t
+    → Keeps (read_row test fits ks g p t)
 keeps_row {A} {B} test fits ks g {p} {t} s u = keeps_bind s (λ a ts b r e. keeps_rest test fits ks g u (length ts) a ts b r e)
 
 pub keeps_sign : (k : ℕ) → Keeps (read_picked (line_if k))
@@ -92,11 +98,13 @@ keeps_trail k s = keeps_made (λ c. c.0) (keeps_both s (keeps_sign k))
 -- declarations
 pub parameter_keeps : (n : ℕ) → Keeps (parts.parameter n)
 unfolding parts.parameter parts.typed
-parameter_keeps n = keeps_made trees.parameter (keeps_both (keeps_made (λ c. c.0) (specifiers_keeps n)) (keeps_optional (1 ∷ []) (shrinks_keeps (picked_shrinks trees.name_of))))
+parameter_keeps n = keeps_made trees.parameter (keeps_both (keeps_made (λ c. c.0) (specifiers_keeps n))
+    (keeps_optional (1 ∷ []) (shrinks_keeps (picked_shrinks trees.name_of))))
 
 parameters_keep : (n : ℕ) → Keeps (parts.parameters n)
 unfolding parts.parameters parts.parameter_list
-parameters_keep n = keeps_made trees.or_none (keeps_optional specifier_first (keeps_row always always (punct p.Comma ∷ []) trees.snoc (keeps_made trees.single (parameter_keeps n)) (keeps_lead (punct p.Comma) (parameter_keeps n))))
+parameters_keep n = keeps_made trees.or_none (keeps_optional specifier_first
+    (keeps_row always always (punct p.Comma ∷ []) trees.snoc (keeps_made trees.single (parameter_keeps n)) (keeps_lead (punct p.Comma) (parameter_keeps n))))
 
 pub top_keeps : (n : ℕ) (r : Rank) → IsRead r → Keeps (parts.top_expression n r)
 unfolding parts.top_expression
@@ -113,23 +121,36 @@ shape_keeps n = keeps_made trees.or_plain (keeps_optional (punct p.OpenBracket �
 
 initialiser_keeps : (n : ℕ) → Keeps (parts.initialiser n)
 unfolding parts.initialiser parts.elements
-initialiser_keeps n = keeps_either (punct p.OpenBrace ∷ []) (keeps_made trees.elements (keeps_both (keeps_sign (punct p.OpenBrace)) (keeps_trail (punct p.CloseBrace)
-    (keeps_made (λ c. c.0) (keeps_row is_open always (punct p.Comma ∷ []) next_element (keeps_made first_element (top_keeps n Assignment tt)) (keeps_lead (punct p.Comma) (optional_top_keeps n)))))))
+initialiser_keeps n = keeps_either (punct p.OpenBrace ∷ []) (keeps_made trees.elements
+    (keeps_both (keeps_sign (punct p.OpenBrace)) (keeps_trail (punct p.CloseBrace)
+    (keeps_made (λ c. c.0) (keeps_row is_open always (punct p.Comma ∷ []) next_element (keeps_made first_element (top_keeps n Assignment tt))
+    (keeps_lead (punct p.Comma) (optional_top_keeps n)))))))
     (keeps_made initialisers.Value (top_keeps n Assignment tt))
 
 pub declarator_keeps : (n : ℕ) → Keeps (parts.declarator n)
 unfolding parts.declarator
-declarator_keeps n = keeps_made trees.declarator (keeps_both (keeps_both (shrinks_keeps (picked_shrinks trees.name_of)) (shape_keeps n)) (keeps_optional (punct p.Equals ∷ []) (keeps_lead (punct p.Equals) (initialiser_keeps n))))
+declarator_keeps n = keeps_made trees.declarator (keeps_both (keeps_both (shrinks_keeps (picked_shrinks trees.name_of)) (shape_keeps n))
+    (keeps_optional (punct p.Equals ∷ []) (keeps_lead (punct p.Equals) (initialiser_keeps n))))
 
 -- loops begin
-pub parameters_begin : (n : ℕ) (ts : List Token) (a : Parameter) (r : List Token) → parts.parameter n ts ≡ Found a r → read_rest always always (punct p.Comma ∷ []) trees.snoc (read_lead (punct p.Comma) (parts.parameter n)) (length r) (a ∷ []) r ≡ parts.parameter_list n ts
+pub parameters_begin : (n : ℕ) (ts : List Token) (a : Parameter) (r : List Token) → parts.parameter n ts ≡ Found a r
+    → read_rest always always (punct p.Comma ∷ []) trees.snoc (read_lead (punct p.Comma) (parts.parameter n)) (length r) (a ∷ []) r ≡ parts.parameter_list n ts
 unfolding parts.parameter_list
-parameters_begin n ts a r e = sym (ap (λ z. bind (bind z (λ a r. Found (trees.single a) r)) (λ a r. read_rest always always (punct p.Comma ∷ []) trees.snoc (read_lead (punct p.Comma) (parts.parameter n)) (length r) a r)) e)
+parameters_begin n ts a r e = sym (ap (λ z. bind (bind z (λ a r. Found (trees.single a) r))
+    (λ a r. read_rest always always (punct p.Comma ∷ []) trees.snoc (read_lead (punct p.Comma) (parts.parameter n)) (length r) a r)) e)
 
-pub declarators_begin : (n : ℕ) (ts : List Token) (a : Declarator) (r : List Token) → parts.declarator n ts ≡ Found a r → read_rest always always (punct p.Comma ∷ []) trees.snoc (read_lead (punct p.Comma) (parts.declarator n)) (length r) (a ∷ []) r ≡ parts.declarator_list n ts
+pub declarators_begin : (n : ℕ) (ts : List Token) (a : Declarator) (r : List Token) → parts.declarator n ts ≡ Found a r
+    → read_rest always always (punct p.Comma ∷ []) trees.snoc (read_lead (punct p.Comma) (parts.declarator n)) (length r) (a ∷ []) r ≡ parts.declarator_list n
+    ts
 unfolding parts.declarator_list
-declarators_begin n ts a r e = sym (ap (λ z. bind (bind z (λ a r. Found (trees.single a) r)) (λ a r. read_rest always always (punct p.Comma ∷ []) trees.snoc (read_lead (punct p.Comma) (parts.declarator n)) (length r) a r)) e)
+declarators_begin n ts a r e = sym (ap (λ z. bind (bind z (λ a r. Found (trees.single a) r))
+    (λ a r. read_rest always always (punct p.Comma ∷ []) trees.snoc (read_lead (punct p.Comma) (parts.declarator n)) (length r) a r)) e)
 
-pub elements_begin : (n : ℕ) (ts : List Token) (a : Expr) (r : List Token) → parts.top_expression n Assignment ts ≡ Found a r → bind (read_rest is_open always (punct p.Comma ∷ []) next_element (read_lead (punct p.Comma) (read_optional expr_first (parts.top_expression n Assignment))) (length r) (a ∷ [], true) r) (λ c s. Found c.0 s) ≡ parts.elements n ts
+pub elements_begin : (n : ℕ) (ts : List Token) (a : Expr) (r : List Token) → parts.top_expression n Assignment ts ≡ Found a r
+    → bind (read_rest is_open always (punct p.Comma ∷ []) next_element
+    (read_lead (punct p.Comma) (read_optional expr_first (parts.top_expression n Assignment))) (length r) (a ∷ [], true) r) (λ c s. Found c.0 s) ≡
+    parts.elements n ts
 unfolding parts.elements
-elements_begin n ts a r e = sym (ap (λ z. bind (bind (bind z (λ a r. Found (first_element a) r)) (λ a r. read_rest is_open always (punct p.Comma ∷ []) next_element (read_lead (punct p.Comma) (read_optional expr_first (parts.top_expression n Assignment))) (length r) a r)) (λ c s. Found c.0 s)) e)
+elements_begin n ts a r e = sym (ap (λ z. bind (bind (bind z (λ a r. Found (first_element a) r))
+    (λ a r. read_rest is_open always (punct p.Comma ∷ []) next_element
+    (read_lead (punct p.Comma) (read_optional expr_first (parts.top_expression n Assignment))) (length r) a r)) (λ c s. Found c.0 s)) e)

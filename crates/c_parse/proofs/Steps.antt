@@ -1,5 +1,6 @@
 -- What a loop of the code keeps: a value grows by one reader again and again.
-use Rattle.std.proofs.Common.{ℕ, zero, suc, ◌≡◌, ◌<◌, ◌≤◌, refl, sym, ◌∙◌, ap, Bool, true, false, if◌then◌else◌, List, [], ◌∷◌, arith, length, length-append, Option, Some, None}
+use Rattle.std.proofs.Common.{ℕ, zero, suc, ◌≡◌, ◌<◌, ◌≤◌, refl, sym, ◌∙◌, ap, Bool, true, false, if◌then◌else◌, List, [], ◌∷◌, arith, length}
+use Rattle.std.proofs.Common.{length-append, Option, Some, None}
 use Rattle.c_tree.specs.declared.token.Token.{Token}
 use Rattle.c_parse.specs.declared.refusal.Refusal.{Refusal}
 use Rattle.c_parse.specs.declared.refusal.Refusal.TheVariants as refusals
@@ -17,7 +18,8 @@ Shrinks {A} p = (ts : List Token) (a : A) (r : List Token) → p ts ≡ Found a 
 abbrev pub Keeps : {A : Type 0} → (List Token → Reply A) → Type 0
 Keeps {A} p = (ts : List Token) (a : A) (r : List Token) → p ts ≡ Found a r → length r ≤ length ts
 
-pub reads_keeps : {A : Type 0} {L V : A → List Token → Type 0} {p q : List Token → Reply A} {next : List ℕ} {follow : A → List ℕ} → Reads L V p q next follow → Keeps p
+pub reads_keeps : {A : Type 0} {L V : A → List Token → Type 0} {p q : List Token → Reply A} {next : List ℕ} {follow : A → List ℕ} → Reads L V p q next follow
+    → Keeps p
 reads_keeps {A} {L} {V} {p} R ts a r e = go (R.outcome ts) e
   where
     go : {x : Reply A} → Outcome L V p ts x → x ≡ Found a r → length r ≤ length ts
@@ -88,20 +90,24 @@ module _ {A B : Type 0} (test fits : A → Bool) (ks : List ℕ) (g : A → B �
       go zero lt = absurd (omega (arith, lt))
       go (suc k) lt = if_true _ _ (if_true _ _ h ∙ m) ∙ if_false _ _ f
 
-  row_on : (a : A) (ts : List Token) → test a ≡ true → member (look ts) ks ≡ true → fits a ≡ true → (j : ℕ) × (length ts ≡ suc j) × (rest (length ts) a ts ≡ bind (t ts) (λ b r. rest j (g a b) r))
+  row_on : (a : A) (ts : List Token) → test a ≡ true → member (look ts) ks ≡ true → fits a ≡ true
+      → (j : ℕ) × (length ts ≡ suc j) × (rest (length ts) a ts ≡ bind (t ts) (λ b r. rest j (g a b) r))
   row_on a ts h m f = go (length ts) (begins ts m)
     where
       go : (k : ℕ) → 0 < k → (j : ℕ) × (k ≡ suc j) × (rest k a ts ≡ bind (t ts) (λ b r. rest j (g a b) r))
       go zero lt = absurd (omega (arith, lt))
       go (suc k) lt = (k, refl, if_true _ _ (if_true _ _ h ∙ m) ∙ if_true _ _ f)
 
-  pub row_fails : (a : A) (ts : List Token) (e : Refusal) → test a ≡ true → member (look ts) ks ≡ true → fits a ≡ true → Fails e (t ts) → Fails e (rest (length ts) a ts)
+  pub row_fails : (a : A) (ts : List Token) (e : Refusal) → test a ≡ true → member (look ts) ks ≡ true → fits a ≡ true → Fails e (t ts)
+      → Fails e (rest (length ts) a ts)
   row_fails a ts refusals.Memory h m f x = tt
   row_fails a ts (refusals.Wrong r) h m f x = (row_on a ts h m f).2 ∙ ap (λ z. bind z (λ b r. rest (row_on a ts h m f).0 (g a b) r)) x
   row_fails a ts (refusals.Deep r) h m f x = (row_on a ts h m f).2 ∙ ap (λ z. bind z (λ b r. rest (row_on a ts h m f).0 (g a b) r)) x
 
   module _ (less : Shrinks t) where
-    same_bind : (j k : ℕ) (a : A) (ts : List Token) (x : Reply B) → t ts ≡ x → ((b : B) (r : List Token) → length r < length ts → rest j (g a b) r ≡ rest k (g a b) r) → bind x (λ b r. rest j (g a b) r) ≡ bind x (λ b r. rest k (g a b) r)
+    same_bind : (j k : ℕ) (a : A) (ts : List Token) (x : Reply B) → t ts ≡ x
+        → ((b : B) (r : List Token) → length r < length ts → rest j (g a b) r ≡ rest k (g a b) r)
+        → bind x (λ b r. rest j (g a b) r) ≡ bind x (λ b r. rest k (g a b) r)
     same_bind j k a ts (Found b r) e ih = ih b r (less ts b r e)
     same_bind j k a ts (Wrong r) e ih = refl
     same_bind j k a ts (Deep r) e ih = refl
@@ -119,30 +125,44 @@ module _ {A B : Type 0} (test fits : A → Bool) (ks : List ℕ) (g : A → B �
     enough (suc j) zero a [] h i = idle (suc j) a [] (off_end a)
     enough zero (suc k) a (u ∷ ts) h i = absurd (omega (arith, h))
     enough (suc j) zero a (u ∷ ts) h i = absurd (omega (arith, i))
-    enough (suc j) (suc k) a ts h i = ap (λ z. if go_test a ts then (if fits a then z else Deep ts) else Found a ts) (same_bind j k a ts (t ts) refl (λ b r lt. enough j k (g a b) r (omega (arith, h, lt)) (omega (arith, i, lt))))
+    enough (suc j) (suc k) a ts h i = ap (λ z. if go_test a ts then (if fits a then z else Deep ts) else Found a ts)
+        (same_bind j k a ts (t ts) refl (λ b r lt. enough j k (g a b) r (omega (arith, h, lt)) (omega (arith, i, lt))))
 
     -- one round
-    pub row_step : (a : A) (b : B) (ts r : List Token) → test a ≡ true → member (look ts) ks ≡ true → fits a ≡ true → t ts ≡ Found b r → rest (length ts) a ts ≡ rest (length r) (g a b) r
-    row_step a b ts r h m f e = let j = row_on a ts h m f in j.2 ∙ ap (λ z. bind z (λ b r. rest j.0 (g a b) r)) e ∙ enough j.0 (length r) (g a b) r (omega (arith, j.1, less ts b r e)) (omega arith)
+    pub row_step : (a : A) (b : B) (ts r : List Token) → test a ≡ true → member (look ts) ks ≡ true → fits a ≡ true → t ts ≡ Found b r
+        → rest (length ts) a ts ≡ rest (length r) (g a b) r
+    row_step a b ts r h m f e = let j = row_on a ts h m f in j.2 ∙ ap (λ z. bind z (λ b r. rest j.0 (g a b) r)) e ∙ enough j.0 (length r) (g a b) r
+        (omega (arith, j.1, less ts b r e)) (omega arith)
 
 -- a token, and then another reader
-pub led : {A : Type 0} (k : ℕ) (p : List Token → Reply A) (ts next : List Token) (l : ℕ) (a : A) (r : List Token) → read_sign k ts ≡ Found l next → p next ≡ Found a r → read_lead k p ts ≡ Found a r
-led {A} k p ts next l a r e h = ap (λ z. bind {A = ℕ × A} (bind z (λ l s. bind (p s) (λ b s'. Found (l, b) s'))) (λ c s. Found c.1 s)) e ∙ ap (λ z. bind {A = ℕ × A} (bind z (λ b s'. Found (l, b) s')) (λ c s. Found c.1 s)) h
+pub led : {A : Type 0} (k : ℕ) (p : List Token → Reply A) (ts next : List Token) (l : ℕ) (a : A) (r : List Token) → read_sign k ts ≡ Found l next
+    → p next ≡ Found a r → read_lead k p ts ≡ Found a r
+led {A} k p ts next l a r e h = ap (λ z. bind {A = ℕ × A} (bind z (λ l s. bind (p s) (λ b s'. Found (l, b) s'))) (λ c s. Found c.1 s)) e ∙ ap
+    (λ z. bind {A = ℕ × A} (bind z (λ b s'. Found (l, b) s')) (λ c s. Found c.1 s)) h
 
-pub lead_fails : {A : Type 0} (k : ℕ) (p : List Token → Reply A) (ts next : List Token) (l : ℕ) (e : Refusal) → read_sign k ts ≡ Found l next → Fails e (p next) → Fails e (read_lead k p ts)
+pub lead_fails : {A : Type 0} (k : ℕ) (p : List Token → Reply A) (ts next : List Token) (l : ℕ) (e : Refusal) → read_sign k ts ≡ Found l next → Fails e (p next)
+    → Fails e (read_lead k p ts)
 lead_fails k p ts next l refusals.Memory e h = tt
-lead_fails {A} k p ts next l (refusals.Wrong r) e h = ap (λ z. bind {A = ℕ × A} (bind z (λ l s. bind (p s) (λ b s'. Found (l, b) s'))) (λ c s. Found c.1 s)) e ∙ ap (λ z. bind {A = ℕ × A} (bind z (λ b s'. Found (l, b) s')) (λ c s. Found c.1 s)) h
-lead_fails {A} k p ts next l (refusals.Deep r) e h = ap (λ z. bind {A = ℕ × A} (bind z (λ l s. bind (p s) (λ b s'. Found (l, b) s'))) (λ c s. Found c.1 s)) e ∙ ap (λ z. bind {A = ℕ × A} (bind z (λ b s'. Found (l, b) s')) (λ c s. Found c.1 s)) h
+lead_fails {A} k p ts next l (refusals.Wrong r) e h = ap (λ z. bind {A = ℕ × A} (bind z (λ l s. bind (p s) (λ b s'. Found (l, b) s'))) (λ c s. Found c.1 s)) e ∙
+    ap (λ z. bind {A = ℕ × A} (bind z (λ b s'. Found (l, b) s')) (λ c s. Found c.1 s)) h
+lead_fails {A} k p ts next l (refusals.Deep r) e h = ap (λ z. bind {A = ℕ × A} (bind z (λ l s. bind (p s) (λ b s'. Found (l, b) s'))) (λ c s. Found c.1 s)) e ∙
+    ap (λ z. bind {A = ℕ × A} (bind z (λ b s'. Found (l, b) s')) (λ c s. Found c.1 s)) h
 
-pub paired : {C A : Type 0} (o : List Token → Reply C) (p : List Token → Reply A) (ts next : List Token) (l : C) (a : A) (r : List Token) → o ts ≡ Found l next → p next ≡ Found a r → read_both o p ts ≡ Found (l, a) r
-paired {C} {A} o p ts next l a r e h = ap (λ z. bind z (λ l s. bind {B = C × A} (p s) (λ b s'. Found (l, b) s'))) e ∙ ap (λ z. bind {B = C × A} z (λ b s'. Found (l, b) s')) h
+pub paired : {C A : Type 0} (o : List Token → Reply C) (p : List Token → Reply A) (ts next : List Token) (l : C) (a : A) (r : List Token) → o ts ≡ Found l next
+    → p next ≡ Found a r → read_both o p ts ≡ Found (l, a) r
+paired {C} {A} o p ts next l a r e h = ap (λ z. bind z (λ l s. bind {B = C × A} (p s) (λ b s'. Found (l, b) s'))) e ∙ ap
+    (λ z. bind {B = C × A} z (λ b s'. Found (l, b) s')) h
 
-pub pair_fails : {C A : Type 0} (o : List Token → Reply C) (p : List Token → Reply A) (ts next : List Token) (l : C) (e : Refusal) → o ts ≡ Found l next → Fails e (p next) → Fails e (read_both o p ts)
+pub pair_fails : {C A : Type 0} (o : List Token → Reply C) (p : List Token → Reply A) (ts next : List Token) (l : C) (e : Refusal) → o ts ≡ Found l next
+    → Fails e (p next) → Fails e (read_both o p ts)
 pair_fails o p ts next l refusals.Memory e h = tt
-pair_fails {C} {A} o p ts next l (refusals.Wrong r) e h = ap (λ z. bind z (λ l s. bind {B = C × A} (p s) (λ b s'. Found (l, b) s'))) e ∙ ap (λ z. bind {B = C × A} z (λ b s'. Found (l, b) s')) h
-pair_fails {C} {A} o p ts next l (refusals.Deep r) e h = ap (λ z. bind z (λ l s. bind {B = C × A} (p s) (λ b s'. Found (l, b) s'))) e ∙ ap (λ z. bind {B = C × A} z (λ b s'. Found (l, b) s')) h
+pair_fails {C} {A} o p ts next l (refusals.Wrong r) e h = ap (λ z. bind z (λ l s. bind {B = C × A} (p s) (λ b s'. Found (l, b) s'))) e ∙ ap
+    (λ z. bind {B = C × A} z (λ b s'. Found (l, b) s')) h
+pair_fails {C} {A} o p ts next l (refusals.Deep r) e h = ap (λ z. bind z (λ l s. bind {B = C × A} (p s) (λ b s'. Found (l, b) s'))) e ∙ ap
+    (λ z. bind {B = C × A} z (λ b s'. Found (l, b) s')) h
 
-pub first_fails : {C A : Type 0} (o : List Token → Reply C) (p : List Token → Reply A) (ts : List Token) (e : Refusal) → Fails e (o ts) → Fails e (read_both o p ts)
+pub first_fails : {C A : Type 0} (o : List Token → Reply C) (p : List Token → Reply A) (ts : List Token) (e : Refusal) → Fails e (o ts)
+    → Fails e (read_both o p ts)
 first_fails o p ts refusals.Memory h = tt
 first_fails {C} {A} o p ts (refusals.Wrong r) h = ap (λ z. bind z (λ l s. bind {B = C × A} (p s) (λ b s'. Found (l, b) s'))) h
 first_fails {C} {A} o p ts (refusals.Deep r) h = ap (λ z. bind z (λ l s. bind {B = C × A} (p s) (λ b s'. Found (l, b) s'))) h
@@ -153,13 +173,16 @@ sign_fails {A} k p ts (refusals.Wrong r) h = ap (λ z. bind {A = ℕ × A} (bind
 sign_fails {A} k p ts (refusals.Deep r) h = ap (λ z. bind {A = ℕ × A} (bind z (λ l s. bind (p s) (λ b s'. Found (l, b) s'))) (λ c s. Found c.1 s)) h
 
 -- what may be absent
-pub optional_some : {A : Type 0} (ks : List ℕ) (p : List Token → Reply A) (ts : List Token) (a : A) (r : List Token) → member (look ts) ks ≡ true → p ts ≡ Found a r → read_optional ks p ts ≡ Found (Some a) r
+pub optional_some : {A : Type 0} (ks : List ℕ) (p : List Token → Reply A) (ts : List Token) (a : A) (r : List Token) → member (look ts) ks ≡ true
+    → p ts ≡ Found a r → read_optional ks p ts ≡ Found (Some a) r
 optional_some ks p ts a r h e = if_true _ _ h ∙ ap (λ z. bind z (λ a r. Found (Some a) r)) e
 
-pub optional_none : {A : Type 0} (ks : List ℕ) (p : List Token → Reply A) (ts : List Token) → member (look ts) ks ≡ false → read_optional ks p ts ≡ Found None ts
+pub optional_none : {A : Type 0} (ks : List ℕ) (p : List Token → Reply A) (ts : List Token) → member (look ts) ks ≡ false
+    → read_optional ks p ts ≡ Found None ts
 optional_none ks p ts h = if_false _ _ h
 
-pub optional_fails : {A : Type 0} (ks : List ℕ) (p : List Token → Reply A) (ts : List Token) (e : Refusal) → member (look ts) ks ≡ true → Fails e (p ts) → Fails e (read_optional ks p ts)
+pub optional_fails : {A : Type 0} (ks : List ℕ) (p : List Token → Reply A) (ts : List Token) (e : Refusal) → member (look ts) ks ≡ true → Fails e (p ts)
+    → Fails e (read_optional ks p ts)
 optional_fails ks p ts refusals.Memory h x = tt
 optional_fails ks p ts (refusals.Wrong r) h x = if_true _ _ h ∙ ap (λ z. bind z (λ a r. Found (Some a) r)) x
 optional_fails ks p ts (refusals.Deep r) h x = if_true _ _ h ∙ ap (λ z. bind z (λ a r. Found (Some a) r)) x

@@ -21,10 +21,12 @@ read_so ts = ap (λ z. parts.whole_module z ts) limit_is ∙ module_is limit (om
 pub found_answers : (ts : List Token) (m : Module) → parts.whole_module 256 ts ≡ Found m [] → Answers ts (Ok m)
 found_answers ts m e = let r = sym (read_so ts) ∙ e in (read_accepted ts m r, read_only ts m r)
 
-pub wrong_answers : (ts r : List Token) (line : ℕ) → parts.whole_module 256 ts ≡ Wrong r → ((us : List Token) → ts ≡ us ++ r → line ≡ line_at ts (length us)) → Answers ts (Err (faults.At line kinds.Unexpected))
+pub wrong_answers : (ts r : List Token) (line : ℕ) → parts.whole_module 256 ts ≡ Wrong r → ((us : List Token) → ts ≡ us ++ r → line ≡ line_at ts (length us))
+    → Answers ts (Err (faults.At line kinds.Unexpected))
 wrong_answers ts r line h t = let w = read_wrong ts r (sym (read_so ts) ∙ h) in (length w.0, w.2, t w.0 w.1)
 
-pub deep_answers : (ts r : List Token) (line : ℕ) → parts.whole_module 256 ts ≡ Deep r → ((us : List Token) → ts ≡ us ++ r → line ≡ line_at ts (length us)) → Answers ts (Err (faults.At line kinds.Deep))
+pub deep_answers : (ts r : List Token) (line : ℕ) → parts.whole_module 256 ts ≡ Deep r → ((us : List Token) → ts ≡ us ++ r → line ≡ line_at ts (length us))
+    → Answers ts (Err (faults.At line kinds.Deep))
 deep_answers ts r line h t = let w = read_deep ts r (sym (read_so ts) ∙ h) in (length w.0, w.2, t w.0 w.1)
 
 -- the line at a place is that of the token there

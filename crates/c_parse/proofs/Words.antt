@@ -53,10 +53,12 @@ has_line t = ap is_some (if_true (Some t.line) None (eq-eqb (class t) (class t) 
 pub some_sign : (t : Token) → Some_of (sign (class t))
 some_sign t = (t.line, t ∷ [], (t, refl, if_true _ _ (eq-eqb (class t) (class t) refl)))
 
-pub reads_sign : (t : Token) → nat_eq 0 (class t) ≡ false → (follow : ℕ → List ℕ) → Reads (sign (class t)) (sign (class t)) (read_sign (class t)) (read_sign (class t)) (class t ∷ []) follow
+pub reads_sign : (t : Token) → nat_eq 0 (class t) ≡ false → (follow : ℕ → List ℕ)
+    → Reads (sign (class t)) (sign (class t)) (read_sign (class t)) (read_sign (class t)) (class t ∷ []) follow
 reads_sign t pos follow = reads_picked (line_if (class t)) (class t ∷ []) (sign_exact (class t)) (ap (λ z. if z then true else false) pos) t (has_line t) follow
 
-pub reads_among : {A : Type 0} (table : List (ℕ × A)) → member 0 (classes table) ≡ false → (t : Token) → is_some (lined t.line (row_of (class t) table)) ≡ true → (follow : A × ℕ → List ℕ) → Reads (among table) (among table) (read_among table) (read_among table) (classes table) follow
+pub reads_among : {A : Type 0} (table : List (ℕ × A)) → member 0 (classes table) ≡ false → (t : Token) → is_some (lined t.line (row_of (class t) table)) ≡ true
+    → (follow : A × ℕ → List ℕ) → Reads (among table) (among table) (read_among table) (read_among table) (classes table) follow
 reads_among table no_end t has follow = reads_picked (λ t. lined t.line (row_of (class t) table)) (classes table) (among_exact table) no_end t has follow
 
 -- a token of a table is spelled by it alone
@@ -73,28 +75,43 @@ pub reads_constant : (follow : Sized → List ℕ) → Reads constant constant (
 reads_constant follow = reads_picked constant_of (2 ∷ []) constant_exact refl (token (kinds.Constant (record { 0 = 0 }) Int)) refl follow
 
 module _ {A : Type 0} {L V : A → List Token → Type 0} {r q : List Token → Reply A} {next : List ℕ} {follow : A → List ℕ} (R : Reads L V r q next follow) where
-  pub reads_lead : (t : Token) → nat_eq 0 (class t) ≡ false → Some_of L → Reads (lead (class t) L) (lead (class t) V) (read_lead (class t) r) (read_lead (class t) q) (class t ∷ []) follow
+  pub reads_lead : (t : Token) → nat_eq 0 (class t) ≡ false → Some_of L
+      → Reads (lead (class t) L) (lead (class t) V) (read_lead (class t) r) (read_lead (class t) q) (class t ∷ []) follow
   reads_lead t pos any = reads_made (reads_both (reads_sign t pos (λ _. next)) R (λ a us l. any) (λ a. subset_self next)) (λ c. c.1) follow (λ c k h. h)
 
-  pub reads_trail : (t : Token) → nat_eq 0 (class t) ≡ false → (after : List ℕ) → ((a : A) → member (class t) (follow a) ≡ true) → Reads (trail L (class t)) (trail V (class t)) (read_trail r (class t)) (read_trail q (class t)) next (λ _. after)
-  reads_trail t pos after has = reads_made (reads_both R (reads_sign t pos (λ _. after)) (λ a us l. some_sign t) (λ a. if_true _ _ (has a))) (λ c. c.0) (λ _. after) (λ c k h. h)
+  pub reads_trail : (t : Token) → nat_eq 0 (class t) ≡ false → (after : List ℕ) → ((a : A) → member (class t) (follow a) ≡ true)
+      → Reads (trail L (class t)) (trail V (class t)) (read_trail r (class t)) (read_trail q (class t)) next (λ _. after)
+  reads_trail t pos after has = reads_made (reads_both R (reads_sign t pos (λ _. after)) (λ a us l. some_sign t) (λ a. if_true _ _ (has a))) (λ c. c.0)
+      (λ _. after) (λ c k h. h)
 
-  pub reads_optional : (ks after : List ℕ) → subset next ks ≡ true → apart after ks ≡ true → ((a : A) → subset after (follow a) ≡ true) → Reads (optional L) (optional V) (read_optional ks r) (read_optional ks q) (next ++ after) (λ _. after)
-  reads_optional ks after here away ends = reads_either (reads_made R Some (λ _. after) (λ a k h. member-subset k after (follow a) (ends a) h)) (reads_absent None after) ks here away
+  pub reads_optional : (ks after : List ℕ) → subset next ks ≡ true → apart after ks ≡ true → ((a : A) → subset after (follow a) ≡ true)
+      → Reads (optional L) (optional V) (read_optional ks r) (read_optional ks q) (next ++ after) (λ _. after)
+  reads_optional ks after here away ends = reads_either (reads_made R Some (λ _. after) (λ a k h. member-subset k after (follow a) (ends a) h))
+      (reads_absent None after) ks here away
 
   -- a list of L with commas between, made by a first element and one after another
-  pub reads_listed : {B : Type 0} (first : A → B) (g : B → A → B) (after : List ℕ) (w : List Token) → Some_of L → ((a : A) → subset (punct p.Comma ∷ after) (follow a) ≡ true) → apart after (punct p.Comma ∷ []) ≡ true → member (look w) after ≡ true → member (look w) (punct p.Comma ∷ []) ≡ false
-      → Reads (built g (made first L) (lead (punct p.Comma) L)) (built g (made first V) (lead (punct p.Comma) V)) (read_built (punct p.Comma ∷ []) g (read_made first r) (read_lead (punct p.Comma) r)) (read_built (punct p.Comma ∷ []) g (read_made first q) (read_lead (punct p.Comma) q)) next (λ _. after)
-  reads_listed first g after w any fits stops w_in w_out = reads_built (reads_made R first (λ _. punct p.Comma ∷ after) (λ a k h. member-subset k (punct p.Comma ∷ after) (follow a) (fits a) h)) (reads_lead (mark p.Comma) refl any) (punct p.Comma ∷ []) g after w refl
-      (λ a. refl) (λ a. subset_right (punct p.Comma ∷ []) after) (λ a. subset_of (punct p.Comma ∷ []) (follow a) (λ k h. member-subset k (punct p.Comma ∷ after) (follow a) (fits a) (member-left k (punct p.Comma ∷ []) after h)))
-      (λ a. subset_of after (follow a) (λ k h. member-subset k (punct p.Comma ∷ after) (follow a) (fits a) (member-right k (punct p.Comma ∷ []) after h))) stops refl (λ a. member-subset (look w) (punct p.Comma ∷ after) (follow a) (fits a) (member-right (look w) (punct p.Comma ∷ []) after w_in)) w_out
+  pub reads_listed : {B : Type 0} (first : A → B) (g : B → A → B) (after : List ℕ) (w : List Token) → Some_of L
+      → ((a : A) → subset (punct p.Comma ∷ after) (follow a) ≡ true) → apart after (punct p.Comma ∷ []) ≡ true → member (look w) after ≡ true
+      → member (look w) (punct p.Comma ∷ []) ≡ false
+      → Reads (built g (made first L) (lead (punct p.Comma) L)) (built g (made first V) (lead (punct p.Comma) V))
+      (read_built (punct p.Comma ∷ []) g (read_made first r) (read_lead (punct p.Comma) r))
+      (read_built (punct p.Comma ∷ []) g (read_made first q) (read_lead (punct p.Comma) q)) next (λ _. after)
+  reads_listed first g after w any fits stops w_in w_out = reads_built
+      (reads_made R first (λ _. punct p.Comma ∷ after) (λ a k h. member-subset k (punct p.Comma ∷ after) (follow a) (fits a) h))
+      (reads_lead (mark p.Comma) refl any) (punct p.Comma ∷ []) g after w refl
+      (λ a. refl) (λ a. subset_right (punct p.Comma ∷ []) after) (λ a. subset_of (punct p.Comma ∷ []) (follow a)
+      (λ k h. member-subset k (punct p.Comma ∷ after) (follow a) (fits a) (member-left k (punct p.Comma ∷ []) after h)))
+      (λ a. subset_of after (follow a) (λ k h. member-subset k (punct p.Comma ∷ after) (follow a) (fits a) (member-right k (punct p.Comma ∷ []) after h))) stops
+      refl (λ a. member-subset (look w) (punct p.Comma ∷ after) (follow a) (fits a) (member-right (look w) (punct p.Comma ∷ []) after w_in)) w_out
 
 -- a list that isn't empty is there where an element is
-pub some_listed : {A B : Type 0} {L : A → List Token → Type 0} (first : A → B) (g : B → A → B) → Some_of L → Some_of (built g (made first L) (lead (punct p.Comma) L))
+pub some_listed : {A B : Type 0} {L : A → List Token → Type 0} (first : A → B) (g : B → A → B) → Some_of L
+    → Some_of (built g (made first L) (lead (punct p.Comma) L))
 some_listed first g x = (first x.0, x.1, ((first x.0, []), refl, (x.1, [], sym (append-nil x.1), (x.0, refl, x.2), refl)))
 
 -- the front token, where a table has its class
-pub among_front : {A : Type 0} (table : List (ℕ × A)) (ts : List Token) (t : Token) (rest : List Token) (a : A) → ts ≡ t ∷ rest → row_of (class t) table ≡ Some a → (member (look ts) (classes table) ≡ true) × (read_among table ts ≡ Found (a, t.line) rest)
+pub among_front : {A : Type 0} (table : List (ℕ × A)) (ts : List Token) (t : Token) (rest : List Token) (a : A) → ts ≡ t ∷ rest
+    → row_of (class t) table ≡ Some a → (member (look ts) (classes table) ≡ true) × (read_among table ts ≡ Found (a, t.line) rest)
 among_front table ts t rest a e h = (
   ap (λ z. member (look z) (classes table)) e ∙ row_exact (class t) table ∙ ap is_some h,
   ap (read_among table) e ∙ ap (λ z. picked_reply t rest (lined t.line z)) h,

@@ -14,9 +14,13 @@ use Rattle.c_parse.specs.declared.precedence.Precedence.{Precedence}
 use Rattle.c_parse.specs.declared.precedence.Precedence.TheVariants.{LogicalOr, LogicalAnd, Or, Xor, And, Equality, Relation, Shift, Sum, Product}
 use Rattle.c_parse.specs.Classes.{class, punct, word, classes, row_of}
 use Rattle.c_parse.specs.Languages.{line_if, lined}
-use Rattle.c_parse.specs.Trees.{Sized, add, one, all_or_none, name_of, constant_of, Suffix, Subscript, Arguments, named, paren, postfix, prefix, unary, cast, binary, conditional, assign, comma, enumerator, EnumRest, Tagged, Untagged, enum, specifier_word, first_specifier, next_specifier, specifiers}
-use Rattle.c_parse.specs.Expressions.{Rank, Comma, Assignment, Conditional, Binary, Cast, Unary, Postfix, operators, assignment_operators, steps, unary_operators, specifier_words}
-use Rattle.c_parse.specs.Reading.{Reply, read_picked, read_sign, read_among, read_open, read_both, read_made, read_either, read_optional, read_lead, read_trail, read_open_lead, read_none, read_row, read_built, always}
+use Rattle.c_parse.specs.Trees.{Sized, add, one, all_or_none, name_of, constant_of, Suffix, Subscript, Arguments, named, paren, postfix, prefix, unary}
+use Rattle.c_parse.specs.Trees.{cast, binary, conditional, assign, comma, enumerator, EnumRest, Tagged, Untagged, enum, specifier_word, first_specifier}
+use Rattle.c_parse.specs.Trees.{next_specifier, specifiers}
+use Rattle.c_parse.specs.Expressions.{Rank, Comma, Assignment, Conditional, Binary, Cast, Unary, Postfix, operators, assignment_operators, steps}
+use Rattle.c_parse.specs.Expressions.{unary_operators, specifier_words}
+use Rattle.c_parse.specs.Reading.{Reply, read_picked, read_sign, read_among, read_open, read_both, read_made, read_either, read_optional, read_lead}
+use Rattle.c_parse.specs.Reading.{read_trail, read_open_lead, read_none, read_row, read_built, always}
 
 -- what may be a part of a node whose parts have height n at most; there is nothing of height 0
 abbrev pub fits : ℕ → {X : Type 0} → X × ℕ → Bool
@@ -78,10 +82,12 @@ module _ (n : ℕ) (e : List Token → Reply Sized) where
   read_enumerators = read_lead (punct p.OpenBrace) (read_trail (read_listing read_enumerator) (punct p.CloseBrace))
 
   abbrev pub read_enum_rest : List Token → Reply EnumRest
-  read_enum_rest = read_either (1 ∷ []) (read_made (λ c. Tagged c.0 c.1) (read_both read_identifier (read_optional (punct p.OpenBrace ∷ []) read_enumerators))) (read_made Untagged read_enumerators)
+  read_enum_rest = read_either (1 ∷ []) (read_made (λ c. Tagged c.0 c.1) (read_both read_identifier (read_optional (punct p.OpenBrace ∷ []) read_enumerators)))
+      (read_made Untagged read_enumerators)
 
   abbrev pub read_specifier : List Token → Reply (Specifier × ℕ)
-  read_specifier = read_either (classes specifier_words) (read_made specifier_word (read_among specifier_words)) (read_made enum (read_both (read_sign (word w.Enum)) read_enum_rest))
+  read_specifier = read_either (classes specifier_words) (read_made specifier_word (read_among specifier_words))
+      (read_made enum (read_both (read_sign (word w.Enum)) read_enum_rest))
 
   abbrev pub read_specifiers : List Token → Reply (Specifiers × ℕ)
   read_specifiers = read_made specifiers (read_built specifier_first next_specifier (read_made first_specifier read_specifier) read_specifier)
@@ -100,8 +106,10 @@ opened c = opened_at c.0 c.1
 
 module _ (n : ℕ) (r : Rank → List Token → Reply Sized) where
   abbrev pub read_suffix : List Token → Reply Suffix
-  read_suffix = read_either (punct p.OpenBracket ∷ []) (read_made Subscript (read_open_lead n (punct p.OpenBracket) (read_trail (r Comma) (punct p.CloseBracket))))
-      (read_made Arguments (read_lead (punct p.OpenParen) (read_trail (read_made all_or_none (read_optional expr_first (read_listing (r Assignment)))) (punct p.CloseParen))))
+  read_suffix = read_either (punct p.OpenBracket ∷ []) (read_made Subscript
+      (read_open_lead n (punct p.OpenBracket) (read_trail (r Comma) (punct p.CloseBracket))))
+      (read_made Arguments (read_lead (punct p.OpenParen) (read_trail (read_made all_or_none (read_optional expr_first (read_listing (r Assignment))))
+      (punct p.CloseParen))))
 
   abbrev pub read_named : List Token → Reply Sized
   read_named = read_made named (read_both read_identifier (read_optional (punct p.OpenBracket ∷ punct p.OpenParen ∷ []) read_suffix))
@@ -113,7 +121,8 @@ module _ (n : ℕ) (r : Rank → List Token → Reply Sized) where
   read_paren = read_made paren (read_both (read_open n (line_if (punct p.OpenParen))) read_inner)
 
   abbrev pub read_opened : List Token → Reply Opened
-  read_opened = read_either specifier_first (read_made Typed (read_both (read_trail (read_specifiers n (r Conditional)) (punct p.CloseParen)) (r Cast))) (read_made Inner read_inner)
+  read_opened = read_either specifier_first (read_made Typed (read_both (read_trail (read_specifiers n (r Conditional)) (punct p.CloseParen)) (r Cast)))
+      (read_made Inner read_inner)
 
   abbrev pub read_cast_or_paren : List Token → Reply Sized
   read_cast_or_paren = read_made opened (read_both (read_open n (line_if (punct p.OpenParen))) read_opened)
@@ -165,10 +174,12 @@ module _ (n : ℕ) (r : Rank → List Token → Reply Sized) where
   read_logical_or = read_level LogicalOr read_logical_and (r (Binary LogicalAnd))
 
   abbrev pub read_conditional : List Token → Reply Sized
-  read_conditional = read_row is_condition (fits n) (punct p.Question ∷ []) conditional read_logical_or (read_both (read_lead (punct p.Question) (r Comma)) (read_lead (punct p.Colon) (r Conditional)))
+  read_conditional = read_row is_condition (fits n) (punct p.Question ∷ []) conditional read_logical_or
+      (read_both (read_lead (punct p.Question) (r Comma)) (read_lead (punct p.Colon) (r Conditional)))
 
   abbrev pub read_assignment : List Token → Reply Sized
-  read_assignment = read_row is_unary (fits n) (classes assignment_operators) assign read_conditional (read_both (read_among assignment_operators) (r Assignment))
+  read_assignment = read_row is_unary (fits n) (classes assignment_operators) assign read_conditional
+      (read_both (read_among assignment_operators) (r Assignment))
 
   abbrev pub read_comma : List Token → Reply Sized
   read_comma = read_row always (fits n) (punct p.Comma ∷ []) comma read_assignment (read_lead (punct p.Comma) (r Assignment))

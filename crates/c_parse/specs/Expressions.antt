@@ -20,7 +20,9 @@ use Rattle.c_parse.specs.declared.precedence.Precedence.{Precedence}
 use Rattle.c_parse.specs.declared.precedence.Precedence.TheVariants.{LogicalOr, LogicalAnd, Or, Xor, And, Equality, Relation, Shift, Sum, Product}
 use Rattle.c_parse.specs.Classes.{punct, word}
 use Rattle.c_parse.specs.Languages.{Lang, picked, sign, among, both, either, made, optional, lead, trail, built}
-use Rattle.c_parse.specs.Trees.{Sized, add, one, all_or_none, name_of, constant_of, Suffix, Subscript, Arguments, named, paren, postfix, prefix, unary, cast, binary, conditional, assign, comma, enumerator, Tagged, Untagged, enum, specifier_word, first_specifier, next_specifier, specifiers}
+use Rattle.c_parse.specs.Trees.{Sized, add, one, all_or_none, name_of, constant_of, Suffix, Subscript, Arguments, named, paren, postfix, prefix, unary}
+use Rattle.c_parse.specs.Trees.{cast, binary, conditional, assign, comma, enumerator, Tagged, Untagged, enum, specifier_word, first_specifier}
+use Rattle.c_parse.specs.Trees.{next_specifier, specifiers}
 
 -- the ranks, the loosest first
 pub data Rank : Type 0 where
@@ -59,8 +61,10 @@ unary_operators = (punct p.Plus, u.Plus) ∷ (punct p.Minus, u.Minus) ∷ (punct
 
 abbrev pub specifier_words : List (ℕ × SpecifierWord)
 specifier_words =
-    (word w.Extern, s.Extern) ∷ (word w.Static, s.Static) ∷ (word w.Auto, s.Auto) ∷ (word w.Register, s.Register) ∷ (word w.Const, s.Const) ∷ (word w.Void, s.Void)
-    ∷ (word w.Char, s.Char) ∷ (word w.Short, s.Short) ∷ (word w.Int, s.Int) ∷ (word w.Long, s.Long) ∷ (word w.Signed, s.Signed) ∷ (word w.Unsigned, s.Unsigned) ∷ []
+    (word w.Extern, s.Extern) ∷ (word w.Static, s.Static) ∷ (word w.Auto, s.Auto) ∷ (word w.Register, s.Register) ∷ (word w.Const, s.Const) ∷
+    (word w.Void, s.Void)
+    ∷ (word w.Char, s.Char) ∷ (word w.Short, s.Short) ∷ (word w.Int, s.Int) ∷ (word w.Long, s.Long) ∷ (word w.Signed, s.Signed) ∷ (word w.Unsigned, s.Unsigned)
+    ∷ []
 
 abbrev pub identifier : Lang Identifier
 identifier = picked name_of
@@ -173,7 +177,8 @@ module _ (G : Rank → Lang Sized) where
 
   -- cond = lor ["?" expr ":" cond]
   abbrev pub IsConditional : Lang Sized
-  IsConditional = either IsLogicalOr (made (λ c. conditional c.0 c.1) (both (G (Binary LogicalOr)) (both (lead (punct p.Question) (G Comma)) (lead (punct p.Colon) (G Conditional)))))
+  IsConditional = either IsLogicalOr (made (λ c. conditional c.0 c.1)
+      (both (G (Binary LogicalOr)) (both (lead (punct p.Question) (G Comma)) (lead (punct p.Colon) (G Conditional)))))
 
   -- assign = cond | unary asgop assign
   abbrev pub IsAssignment : Lang Sized

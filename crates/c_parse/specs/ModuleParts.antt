@@ -24,9 +24,11 @@ use Rattle.c_parse.specs.Trees as trees
 use Rattle.c_parse.specs.Trees.{snoc, single, or_none, or_plain}
 use Rattle.c_parse.specs.Expressions.{Rank, Comma, Assignment, Conditional}
 use Rattle.c_parse.specs.Modules.{headers}
-use Rattle.c_parse.specs.Reading.{Reply, Found, Wrong, bind, read_fork, read_sign, read_among, read_open, read_both, read_made, read_either, read_absent, read_optional, read_lead, read_trail, read_rest, read_row, read_built, always}
+use Rattle.c_parse.specs.Reading.{Reply, Found, Wrong, bind, read_fork, read_sign, read_among, read_open, read_both, read_made, read_either}
+use Rattle.c_parse.specs.Reading.{read_absent, read_optional, read_lead, read_trail, read_rest, read_row, read_built, always}
 use Rattle.c_parse.specs.ExpressionReaders.{expr_first, specifier_first, read_identifier}
-use Rattle.c_parse.specs.ModuleReaders.{read_tree, read_series, first_element, next_element, is_open, is_function, shape_parameters, stmt_first, item_first, read_stmt}
+use Rattle.c_parse.specs.ModuleReaders.{read_tree, read_series, first_element, next_element, is_open, is_function, shape_parameters, stmt_first}
+use Rattle.c_parse.specs.ModuleReaders.{item_first, read_stmt}
 use Rattle.c_parse.specs.Parts.{whole, specifiers}
 
 unfoldable pub top_expression : ℕ → Rank → List Token → Reply Expr
@@ -46,23 +48,28 @@ parameters n = read_made or_none (read_optional specifier_first (parameter_list 
 
 unfoldable pub shape : ℕ → List Token → Reply Shape
 shape n = read_made or_plain (read_optional (punct p.OpenBracket ∷ punct p.OpenParen ∷ [])
-    (read_either (punct p.OpenBracket ∷ []) (read_made shapes.Array (read_lead (punct p.OpenBracket) (read_trail (read_optional expr_first (top_expression n Conditional)) (punct p.CloseBracket))))
+    (read_either (punct p.OpenBracket ∷ []) (read_made shapes.Array
+    (read_lead (punct p.OpenBracket) (read_trail (read_optional expr_first (top_expression n Conditional)) (punct p.CloseBracket))))
     (read_made shapes.Function (read_lead (punct p.OpenParen) (read_trail (parameters n) (punct p.CloseParen))))))
 
 unfoldable pub elements : ℕ → List Token → Reply (List Expr)
-elements n = read_made (λ c. c.0) (read_row is_open always (punct p.Comma ∷ []) next_element (read_made first_element (top_expression n Assignment)) (read_lead (punct p.Comma) (read_optional expr_first (top_expression n Assignment))))
+elements n = read_made (λ c. c.0) (read_row is_open always (punct p.Comma ∷ []) next_element (read_made first_element (top_expression n Assignment))
+    (read_lead (punct p.Comma) (read_optional expr_first (top_expression n Assignment))))
 
 unfoldable pub initialiser : ℕ → List Token → Reply Initialiser
-initialiser n = read_either (punct p.OpenBrace ∷ []) (read_made trees.elements (read_both (read_sign (punct p.OpenBrace)) (read_trail (elements n) (punct p.CloseBrace)))) (read_made initialisers.Value (top_expression n Assignment))
+initialiser n = read_either (punct p.OpenBrace ∷ []) (read_made trees.elements
+    (read_both (read_sign (punct p.OpenBrace)) (read_trail (elements n) (punct p.CloseBrace)))) (read_made initialisers.Value (top_expression n Assignment))
 
 unfoldable pub declarator : ℕ → List Token → Reply Declarator
-declarator n = read_made trees.declarator (read_both (read_both read_identifier (shape n)) (read_optional (punct p.Equals ∷ []) (read_lead (punct p.Equals) (initialiser n))))
+declarator n = read_made trees.declarator (read_both (read_both read_identifier (shape n))
+    (read_optional (punct p.Equals ∷ []) (read_lead (punct p.Equals) (initialiser n))))
 
 unfoldable pub declarator_list : ℕ → List Token → Reply (List Declarator)
 declarator_list n = read_built (punct p.Comma ∷ []) snoc (read_made single (declarator n)) (read_lead (punct p.Comma) (declarator n))
 
 unfoldable pub declaration : ℕ → List Token → Reply Declaration
-declaration n = read_made trees.declaration (read_both (typed n) (read_trail (read_made or_none (read_optional (1 ∷ []) (declarator_list n))) (punct p.Semicolon)))
+declaration n = read_made trees.declaration (read_both (typed n)
+    (read_trail (read_made or_none (read_optional (1 ∷ []) (declarator_list n))) (punct p.Semicolon)))
 
 -- parts of statements
 unfoldable pub part : ℕ → Rank → List Token → Reply Expr
@@ -100,7 +107,8 @@ unfoldable pub guarded : ℕ → ℕ → List Token → Reply (Expr × Stmt)
 guarded n k = read_both (condition k) (statement n k)
 
 unfoldable pub selection : ℕ → ℕ → List Token → Reply Stmt
-selection n k = read_fork always (word w.Else ∷ []) (λ a b. trees.if_else (a, b)) (λ a u. trees.if_only a) (read_both (read_open k (line_if (word w.If))) (guarded n k)) (read_lead (word w.Else) (statement n k)) (read_absent zero)
+selection n k = read_fork always (word w.Else ∷ []) (λ a b. trees.if_else (a, b)) (λ a u. trees.if_only a)
+    (read_both (read_open k (line_if (word w.If))) (guarded n k)) (read_lead (word w.Else) (statement n k)) (read_absent zero)
 
 unfoldable pub switch : ℕ → ℕ → List Token → Reply Stmt
 switch n k = read_made trees.switch (read_both (read_open k (line_if (word w.Switch))) (guarded n k))
@@ -109,7 +117,8 @@ unfoldable pub while_loop : ℕ → ℕ → List Token → Reply Stmt
 while_loop n k = read_made trees.while (read_both (read_open k (line_if (word w.While))) (guarded n k))
 
 unfoldable pub do_while : ℕ → ℕ → List Token → Reply Stmt
-do_while n k = read_made trees.do_while (read_both (read_open k (line_if (word w.Do))) (read_both (statement n k) (read_lead (word w.While) (read_trail (condition k) (punct p.Semicolon)))))
+do_while n k = read_made trees.do_while (read_both (read_open k (line_if (word w.Do)))
+    (read_both (statement n k) (read_lead (word w.While) (read_trail (condition k) (punct p.Semicolon)))))
 
 -- [expr] ";"
 unfoldable pub clause : ℕ → List Token → Reply (Option Expr)
@@ -155,11 +164,13 @@ declares n s d = read_made (λ ds. kinds.Declaration (trees.declaration (s, ds))
 
 -- behind the specifiers s; the body of a function is at the top of a tree of its own
 unfoldable pub declared : ℕ → Specifiers → List Token → Reply Item
-declared n s ts = bind (declarator n ts) (λ d r. if (if is_function d then member (look r) (punct p.OpenBrace ∷ []) else false) then read_made (λ b. trees.function ((s, (d.name, shape_parameters d.shape)), b)) (block n (n - 1)) r else declares n s d r)
+declared n s ts = bind (declarator n ts) (λ d r. if (if is_function d then member (look r) (punct p.OpenBrace ∷ []) else false) then read_made
+    (λ b. trees.function ((s, (d.name, shape_parameters d.shape)), b)) (block n (n - 1)) r else declares n s d r)
 
 unfoldable pub item : ℕ → List Token → Reply Item
 item n = read_either (classes headers) (read_made trees.include (read_among headers))
-    (λ ts. bind (typed n ts) (λ s r. read_either (punct p.Semicolon ∷ []) (read_made (λ l. kinds.Declaration (trees.declaration (s, []))) (read_sign (punct p.Semicolon))) (declared n s) r))
+    (λ ts. bind (typed n ts) (λ s r. read_either (punct p.Semicolon ∷ [])
+    (read_made (λ l. kinds.Declaration (trees.declaration (s, []))) (read_sign (punct p.Semicolon))) (declared n s) r))
 
 unfoldable pub items : ℕ → List Token → Reply (List Item)
 items n = read_series item_first (item n)

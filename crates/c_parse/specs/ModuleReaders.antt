@@ -20,10 +20,13 @@ use Rattle.c_tree.specs.declared.statement.Block.{Block}
 use Rattle.c_tree.specs.declared.statement.Stmt.{Stmt}
 use Rattle.c_parse.specs.Classes.{punct, word, classes, look}
 use Rattle.c_parse.specs.Languages.{line_if}
-use Rattle.c_parse.specs.Trees.{snoc, single, or_none, or_plain, declarator, elements, parameter, declaration, function, include, module_of, block, block_statement, empty, expression, if_only, if_else, switch, while, do_while, for, case, default, break, continue, return}
+use Rattle.c_parse.specs.Trees.{snoc, single, or_none, or_plain, declarator, elements, parameter, declaration, function, include, module_of, block}
+use Rattle.c_parse.specs.Trees.{block_statement, empty, expression, if_only, if_else, switch, while, do_while, for, case, default, break, continue}
+use Rattle.c_parse.specs.Trees.{return}
 use Rattle.c_parse.specs.Expressions.{Comma, Assignment, Conditional}
 use Rattle.c_parse.specs.Modules.{headers}
-use Rattle.c_parse.specs.Reading.{Reply, Found, Wrong, bind, read_sign, read_among, read_open, read_both, read_made, read_either, read_absent, read_optional, read_lead, read_trail, read_none, read_fork, read_row, read_built, always}
+use Rattle.c_parse.specs.Reading.{Reply, Found, Wrong, bind, read_sign, read_among, read_open, read_both, read_made, read_either, read_absent}
+use Rattle.c_parse.specs.Reading.{read_optional, read_lead, read_trail, read_none, read_fork, read_row, read_built, always}
 use Rattle.c_parse.specs.ExpressionReaders.{expr_first, specifier_first, read_identifier, read_specifiers, read_expr}
 
 abbrev pub read_tree : {A : Type 0} → (List Token → Reply (A × ℕ)) → List Token → Reply A
@@ -91,16 +94,21 @@ module _ (n : ℕ) where
   read_element = read_tree (read_expr n Assignment)
 
   abbrev pub read_elements : List Token → Reply (List Expr)
-  read_elements = read_made (λ c. c.0) (read_row is_open always (punct p.Comma ∷ []) next_element (read_made first_element read_element) (read_lead (punct p.Comma) (read_optional expr_first read_element)))
+  read_elements = read_made (λ c. c.0) (read_row is_open always (punct p.Comma ∷ []) next_element (read_made first_element read_element)
+      (read_lead (punct p.Comma) (read_optional expr_first read_element)))
 
   abbrev pub read_initialiser : List Token → Reply Initialiser
-  read_initialiser = read_either (punct p.OpenBrace ∷ []) (read_made elements (read_both (read_sign (punct p.OpenBrace)) (read_trail read_elements (punct p.CloseBrace)))) (read_made initialisers.Value read_element)
+  read_initialiser = read_either (punct p.OpenBrace ∷ []) (read_made elements
+      (read_both (read_sign (punct p.OpenBrace)) (read_trail read_elements (punct p.CloseBrace)))) (read_made initialisers.Value read_element)
 
   abbrev pub read_declarator : List Token → Reply Declarator
-  read_declarator = read_made declarator (read_both (read_both read_identifier (read_made or_plain (read_optional (punct p.OpenBracket ∷ punct p.OpenParen ∷ []) read_shape))) (read_optional (punct p.Equals ∷ []) (read_lead (punct p.Equals) read_initialiser)))
+  read_declarator = read_made declarator (read_both (read_both read_identifier
+      (read_made or_plain (read_optional (punct p.OpenBracket ∷ punct p.OpenParen ∷ []) read_shape)))
+      (read_optional (punct p.Equals ∷ []) (read_lead (punct p.Equals) read_initialiser)))
 
   abbrev pub read_declaration : List Token → Reply Declaration
-  read_declaration = read_made declaration (read_both read_typed (read_trail (read_made or_none (read_optional (1 ∷ []) (read_listed read_declarator))) (punct p.Semicolon)))
+  read_declaration = read_made declaration (read_both read_typed
+      (read_trail (read_made or_none (read_optional (1 ∷ []) (read_listed read_declarator))) (punct p.Semicolon)))
 
 -- the classes that a statement begins with
 abbrev pub stmt_first : List ℕ
@@ -111,7 +119,8 @@ stmt_first =
 -- e reads expressions, c those of a case label, d declarations and s statements
 module _ (k : ℕ) (e c : List Token → Reply Expr) (d : List Token → Reply Declaration) (s : List Token → Reply Stmt) where
   abbrev pub read_block_over : List Token → Reply Block
-  read_block_over = read_made block (read_both (read_sign (punct p.OpenBrace)) (read_trail (read_both (read_series specifier_first d) (read_series stmt_first s)) (punct p.CloseBrace)))
+  read_block_over = read_made block (read_both (read_sign (punct p.OpenBrace))
+      (read_trail (read_both (read_series specifier_first d) (read_series stmt_first s)) (punct p.CloseBrace)))
 
   abbrev pub read_condition : List Token → Reply Expr
   read_condition = read_lead (punct p.OpenParen) (read_trail e (punct p.CloseParen))
@@ -123,7 +132,8 @@ module _ (k : ℕ) (e c : List Token → Reply Expr) (d : List Token → Reply D
   read_keyword j r = read_both (read_open k (line_if j)) r
 
   abbrev pub read_if : List Token → Reply Stmt
-  read_if = read_fork always (word w.Else ∷ []) (λ a b. if_else (a, b)) (λ a u. if_only a) (read_keyword (word w.If) read_guarded) (read_lead (word w.Else) s) (read_absent zero)
+  read_if = read_fork always (word w.Else ∷ []) (λ a b. if_else (a, b)) (λ a u. if_only a) (read_keyword (word w.If) read_guarded) (read_lead (word w.Else) s)
+      (read_absent zero)
 
   abbrev pub read_part : List Token → Reply (Option Expr)
   read_part = read_optional expr_first e
@@ -138,8 +148,10 @@ module _ (k : ℕ) (e c : List Token → Reply Expr) (d : List Token → Reply D
       (read_either (word w.If ∷ []) read_if
       (read_either (word w.Switch ∷ []) (read_made switch (read_keyword (word w.Switch) read_guarded))
       (read_either (word w.While ∷ []) (read_made while (read_keyword (word w.While) read_guarded))
-      (read_either (word w.Do ∷ []) (read_made do_while (read_keyword (word w.Do) (read_both s (read_lead (word w.While) (read_trail read_condition (punct p.Semicolon))))))
-      (read_either (word w.For ∷ []) (read_made for (read_keyword (word w.For) (read_both (read_lead (punct p.OpenParen) (read_trail read_head (punct p.CloseParen))) s)))
+      (read_either (word w.Do ∷ []) (read_made do_while (read_keyword (word w.Do)
+      (read_both s (read_lead (word w.While) (read_trail read_condition (punct p.Semicolon))))))
+      (read_either (word w.For ∷ []) (read_made for (read_keyword (word w.For)
+      (read_both (read_lead (punct p.OpenParen) (read_trail read_head (punct p.CloseParen))) s)))
       (read_either (word w.Case ∷ []) (read_made case (read_keyword (word w.Case) (read_both (read_trail c (punct p.Colon)) s)))
       (read_either (word w.Default ∷ []) (read_made default (read_keyword (word w.Default) (read_lead (punct p.Colon) s)))
       (read_either (word w.Break ∷ []) (read_made break (read_trail (read_sign (word w.Break)) (punct p.Semicolon)))

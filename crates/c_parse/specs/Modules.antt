@@ -22,7 +22,9 @@ use Rattle.c_tree.specs.declared.statement.Block.{Block}
 use Rattle.c_tree.specs.declared.statement.Stmt.{Stmt}
 use Rattle.c_parse.specs.Classes.{punct, word, header}
 use Rattle.c_parse.specs.Languages.{Lang, sign, among, both, either, made, such, absent, optional, lead, trail, built}
-use Rattle.c_parse.specs.Trees.{snoc, single, or_none, or_plain, declarator, elements, parameter, declaration, function, include, module_of, block, block_statement, empty, expression, if_only, if_else, switch, while, do_while, for, case, default, break, continue, return, closed}
+use Rattle.c_parse.specs.Trees.{snoc, single, or_none, or_plain, declarator, elements, parameter, declaration, function, include, module_of, block}
+use Rattle.c_parse.specs.Trees.{block_statement, empty, expression, if_only, if_else, switch, while, do_while, for, case, default, break, continue}
+use Rattle.c_parse.specs.Trees.{return, closed}
 use Rattle.c_parse.specs.Expressions.{Comma, Assignment, Conditional, identifier, parenthesised, bracketed, IsSpecifiers, IsExpr}
 
 -- {L}; L {"," L}

@@ -70,14 +70,17 @@ abbrev pub read_none : {A : Type 0} → List ℕ → List Token → Reply A
 read_none ks ts = if member (look ts) ks then Deep ts else Wrong ts
 
 -- p, and then q1 where the front is one of ks and else q2
-abbrev pub read_fork : {A B C D : Type 0} → (A → Bool) → List ℕ → (A → B → D) → (A → C → D) → (List Token → Reply A) → (List Token → Reply B) → (List Token → Reply C) → List Token → Reply D
-read_fork test ks f g p q1 q2 ts = bind (p ts) (λ a r. if (if test a then member (look r) ks else false) then bind (q1 r) (λ b r'. Found (f a b) r') else bind (q2 r) (λ c r'. Found (g a c) r'))
+abbrev pub read_fork : {A B C D : Type 0} → (A → Bool) → List ℕ → (A → B → D) → (A → C → D) → (List Token → Reply A) → (List Token → Reply B)
+    → (List Token → Reply C) → List Token → Reply D
+read_fork test ks f g p q1 q2 ts = bind (p ts) (λ a r. if (if test a then member (look r) ks else false) then bind (q1 r) (λ b r'. Found (f a b) r') else bind
+    (q2 r) (λ c r'. Found (g a c) r'))
 
 -- a value that grows by t while it passes the test and the front is one of ks; it must fit each time.
 -- Each t takes a token, so the length bounds the rounds
 abbrev pub read_rest : {A B : Type 0} → (A → Bool) → (A → Bool) → List ℕ → (A → B → A) → (List Token → Reply B) → ℕ → A → List Token → Reply A
 read_rest test fits ks g t zero a ts = Found a ts
-read_rest test fits ks g t (suc k) a ts = if (if test a then member (look ts) ks else false) then (if fits a then bind (t ts) (λ b r. read_rest test fits ks g t k (g a b) r) else Deep ts) else Found a ts
+read_rest test fits ks g t (suc k) a ts = if (if test a then member (look ts) ks else false)
+    then (if fits a then bind (t ts) (λ b r. read_rest test fits ks g t k (g a b) r) else Deep ts) else Found a ts
 
 abbrev pub read_row : {A B : Type 0} → (A → Bool) → (A → Bool) → List ℕ → (A → B → A) → (List Token → Reply A) → (List Token → Reply B) → List Token → Reply A
 read_row test fits ks g p t ts = bind (p ts) (λ a r. read_rest test fits ks g t (length r) a r)

@@ -5,7 +5,7 @@ ghost use Rattle.c_parse.specs.Ranks.{rank_of};
 ghost use Rattle.c_parse.specs.Gives.{Gives};
 
 use crate::expression::{expression, specifiers};
-use crate::front;
+use crate::lookahead;
 use crate::precedence::Rank;
 use crate::refusal::Refusal;
 use c_tree::{
@@ -42,7 +42,7 @@ fn parameter(alloc: Global, top: u16, t: &[Token]) -> Result<(Parameter, &[Token
     ensures { Gives (λ x. (x.0, x.1.now)) result (parts.parameter top t.now) }
 {
     let (specifiers, rest) = typed(alloc, top, t)?;
-    if !front::at_name(rest) {
+    if !lookahead::at_name(rest) {
         return Ok((
             Parameter {
                 specifiers,
@@ -51,7 +51,7 @@ fn parameter(alloc: Global, top: u16, t: &[Token]) -> Result<(Parameter, &[Token
             rest,
         ));
     }
-    let (name, rest) = front::identifier(alloc, rest)?;
+    let (name, rest) = lookahead::identifier(alloc, rest)?;
     Ok((
         Parameter {
             specifiers,
@@ -72,7 +72,7 @@ fn parameter_list(
     let (first, mut rest) = parameter(alloc, top, t)?;
     let mut items = Items::new(alloc);
     items.push(first)?;
-    'row: while let Some((_, next)) = front::after(Punct::Comma, rest) {
+    'row: while let Some((_, next)) = lookahead::after(Punct::Comma, rest) {
         let (item, next) = parameter(alloc, top, next)?;
         items.push(item)?;
         rest = next;
@@ -85,7 +85,7 @@ fn parameter_list(
 fn parameters(alloc: Global, top: u16, t: &[Token]) -> Result<(Items<Parameter>, &[Token]), Refusal>
     ensures { Gives (λ x. (x.0, x.1.now)) result (parts.parameters top t.now) }
 {
-    if !front::starts_specifiers(t) {
+    if !lookahead::starts_specifiers(t) {
         return Ok((Items::new(alloc), t));
     }
     parameter_list(alloc, top, t)
@@ -96,18 +96,18 @@ fn parameters(alloc: Global, top: u16, t: &[Token]) -> Result<(Items<Parameter>,
 fn shape(alloc: Global, top: u16, t: &[Token]) -> Result<(Shape, &[Token]), Refusal>
     ensures { Gives (λ x. (x.0, x.1.now)) result (parts.shape top t.now) }
 {
-    if let Some((_, rest)) = front::after(Punct::OpenBracket, t) {
-        if !front::starts_expression(rest) {
-            let (_, rest) = front::want(Punct::CloseBracket, rest)?;
+    if let Some((_, rest)) = lookahead::after(Punct::OpenBracket, t) {
+        if !lookahead::starts_expression(rest) {
+            let (_, rest) = lookahead::want(Punct::CloseBracket, rest)?;
             return Ok((Shape::Array(None), rest));
         }
         let (length, rest) = top_expression(alloc, Rank::Conditional, top, rest)?;
-        let (_, rest) = front::want(Punct::CloseBracket, rest)?;
+        let (_, rest) = lookahead::want(Punct::CloseBracket, rest)?;
         return Ok((Shape::Array(Some(length)), rest));
     }
-    if let Some((_, rest)) = front::after(Punct::OpenParen, t) {
+    if let Some((_, rest)) = lookahead::after(Punct::OpenParen, t) {
         let (parameters, rest) = parameters(alloc, top, rest)?;
-        let (_, rest) = front::want(Punct::CloseParen, rest)?;
+        let (_, rest) = lookahead::want(Punct::CloseParen, rest)?;
         return Ok((Shape::Function(parameters), rest));
     }
     Ok((Shape::Plain, t))
@@ -121,8 +121,8 @@ fn elements(alloc: Global, top: u16, t: &[Token]) -> Result<(Items<Expr>, &[Toke
     let (first, mut rest) = top_expression(alloc, Rank::Assignment, top, t)?;
     let mut items = Items::new(alloc);
     items.push(first)?;
-    'row: while let Some((_, next)) = front::after(Punct::Comma, rest) {
-        if !front::starts_expression(next) {
+    'row: while let Some((_, next)) = lookahead::after(Punct::Comma, rest) {
+        if !lookahead::starts_expression(next) {
             return Ok((items, next));
         }
         let (item, next) = top_expression(alloc, Rank::Assignment, top, next)?;
@@ -136,9 +136,9 @@ fn elements(alloc: Global, top: u16, t: &[Token]) -> Result<(Items<Expr>, &[Toke
 fn initialiser(alloc: Global, top: u16, t: &[Token]) -> Result<(Initialiser, &[Token]), Refusal>
     ensures { Gives (λ x. (x.0, x.1.now)) result (parts.initialiser top t.now) }
 {
-    if let Some((line, rest)) = front::after(Punct::OpenBrace, t) {
+    if let Some((line, rest)) = lookahead::after(Punct::OpenBrace, t) {
         let (elements, rest) = elements(alloc, top, rest)?;
-        let (_, rest) = front::want(Punct::CloseBrace, rest)?;
+        let (_, rest) = lookahead::want(Punct::CloseBrace, rest)?;
         return Ok((Initialiser::List { line, elements }, rest));
     }
     let (value, rest) = top_expression(alloc, Rank::Assignment, top, t)?;
@@ -149,9 +149,9 @@ fn initialiser(alloc: Global, top: u16, t: &[Token]) -> Result<(Initialiser, &[T
 pub fn declarator(alloc: Global, top: u16, t: &[Token]) -> Result<(Declarator, &[Token]), Refusal>
     ensures { Gives (λ x. (x.0, x.1.now)) result (parts.declarator top t.now) }
 {
-    let (name, rest) = front::identifier(alloc, t)?;
+    let (name, rest) = lookahead::identifier(alloc, t)?;
     let (shape, rest) = shape(alloc, top, rest)?;
-    let Some((_, rest)) = front::after(Punct::Equals, rest) else {
+    let Some((_, rest)) = lookahead::after(Punct::Equals, rest) else {
         return Ok((
             Declarator {
                 name,
@@ -183,7 +183,7 @@ fn declarator_list(
     let (first, mut rest) = declarator(alloc, top, t)?;
     let mut items = Items::new(alloc);
     items.push(first)?;
-    'row: while let Some((_, next)) = front::after(Punct::Comma, rest) {
+    'row: while let Some((_, next)) = lookahead::after(Punct::Comma, rest) {
         let (item, next) = declarator(alloc, top, next)?;
         items.push(item)?;
         rest = next;
@@ -197,8 +197,8 @@ pub fn declaration(alloc: Global, top: u16, t: &[Token]) -> Result<(Declaration,
     ensures { Gives (λ x. (x.0, x.1.now)) result (parts.declaration top t.now) }
 {
     let (specifiers, rest) = typed(alloc, top, t)?;
-    if !front::at_name(rest) {
-        let (_, rest) = front::want(Punct::Semicolon, rest)?;
+    if !lookahead::at_name(rest) {
+        let (_, rest) = lookahead::want(Punct::Semicolon, rest)?;
         return Ok((
             Declaration {
                 specifiers,
@@ -208,7 +208,7 @@ pub fn declaration(alloc: Global, top: u16, t: &[Token]) -> Result<(Declaration,
         ));
     }
     let (declarators, rest) = declarator_list(alloc, top, rest)?;
-    let (_, rest) = front::want(Punct::Semicolon, rest)?;
+    let (_, rest) = lookahead::want(Punct::Semicolon, rest)?;
     Ok((
         Declaration {
             specifiers,

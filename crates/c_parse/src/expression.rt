@@ -10,7 +10,7 @@ ghost use Rattle.c_parse.specs.Ranks.{rank_of};
 ghost use Rattle.c_parse.specs.Parts as parts;
 ghost use Rattle.c_parse.specs.Gives.{Gives, Fails};
 
-use crate::front;
+use crate::lookahead;
 use crate::node::{self, Listed, Measured};
 use crate::precedence::{Precedence, Rank};
 use crate::refusal::Refusal;
@@ -30,7 +30,7 @@ pub fn expression(
     ensures bounded { IfOk result (λ x. x.0.height ≤ depth) }
 {
     if depth == 0 {
-        if front::starts_expression(t) {
+        if lookahead::starts_expression(t) {
             return Err(Refusal::Deep(t));
         }
         return Err(Refusal::Wrong(t));
@@ -51,7 +51,7 @@ fn comma(alloc: Global, depth: u16, t: &[Token]) -> Result<(Measured, &[Token]),
     ensures gives { Gives (λ x. ((x.0.expr, x.0.height), x.1.now)) result (parts.comma depth t.now) }
 {
     let (mut left, mut rest) = assignment(alloc, depth, t)?;
-    'row: while let Some((_, next)) = front::after(Punct::Comma, rest) {
+    'row: while let Some((_, next)) = lookahead::after(Punct::Comma, rest) {
         if !node::fits(depth, &left) {
             return Err(Refusal::Deep(rest));
         }
@@ -71,7 +71,7 @@ fn assignment(alloc: Global, depth: u16, t: &[Token]) -> Result<(Measured, &[Tok
     if !node::is_unary(&left.expr) {
         return Ok((left, rest));
     }
-    let Some((op, _, next)) = front::assignment_operator(rest) else {
+    let Some((op, _, next)) = lookahead::assignment_operator(rest) else {
         return Ok((left, rest));
     };
     if !node::fits(depth, &left) {
@@ -87,14 +87,14 @@ fn conditional(alloc: Global, depth: u16, t: &[Token]) -> Result<(Measured, &[To
     ensures gives { Gives (λ x. ((x.0.expr, x.0.height), x.1.now)) result (parts.conditional depth t.now) }
 {
     let (left, rest) = binary(alloc, Precedence::LogicalOr, depth, t)?;
-    let Some((_, next)) = front::after(Punct::Question, rest) else {
+    let Some((_, next)) = lookahead::after(Punct::Question, rest) else {
         return Ok((left, rest));
     };
     if !node::fits(depth, &left) {
         return Err(Refusal::Deep(rest));
     }
     let (yes, rest) = expression(alloc, Rank::Comma, depth, next)?;
-    let (_, rest) = front::want(Punct::Colon, rest)?;
+    let (_, rest) = lookahead::want(Punct::Colon, rest)?;
     let (no, rest) = expression(alloc, Rank::Conditional, depth, rest)?;
     Ok((node::conditional(alloc, left, yes, no)?, rest))
 }
@@ -110,7 +110,7 @@ fn binary(
     ensures gives { Gives (λ x. ((x.0.expr, x.0.height), x.1.now)) result (parts.binary depth q t.now) }
 {
     let (mut left, mut rest) = tighter(alloc, q, depth, t)?;
-    'row: while let Some((op, _, next)) = front::operator(q, rest) {
+    'row: while let Some((op, _, next)) = lookahead::operator(q, rest) {
         if !node::fits(depth, &left) {
             return Err(Refusal::Deep(rest));
         }
@@ -152,7 +152,7 @@ fn unary(
     if !node::is_postfix(&left.expr) {
         return Ok((left, rest));
     }
-    'row: while let Some((step, _, next)) = front::step(rest) {
+    'row: while let Some((step, _, next)) = lookahead::step(rest) {
         if !node::fits(depth, &left) {
             return Err(Refusal::Deep(rest));
         }
@@ -172,18 +172,18 @@ fn operand(
 ) -> Result<(Measured, &[Token]), Refusal>
     ensures gives { Gives (λ x. ((x.0.expr, x.0.height), x.1.now)) result (parts.operand depth casts t.now) }
 {
-    if !front::at(Punct::OpenParen, t) {
+    if !lookahead::at(Punct::OpenParen, t) {
         return prefixed(alloc, depth, t);
     }
-    let (line, rest) = front::open(depth, Punct::OpenParen, t)?;
-    if casts && front::starts_specifiers(rest) {
+    let (line, rest) = lookahead::open(depth, Punct::OpenParen, t)?;
+    if casts && lookahead::starts_specifiers(rest) {
         let (specifiers, high, rest) = specifiers(alloc, depth, rest)?;
-        let (_, rest) = front::want(Punct::CloseParen, rest)?;
+        let (_, rest) = lookahead::want(Punct::CloseParen, rest)?;
         let (inner, rest) = expression(alloc, Rank::Cast, depth, rest)?;
         return Ok((node::cast(alloc, line, specifiers, high, inner)?, rest));
     }
     let (inner, rest) = expression(alloc, Rank::Comma, depth, rest)?;
-    let (_, rest) = front::want(Punct::CloseParen, rest)?;
+    let (_, rest) = lookahead::want(Punct::CloseParen, rest)?;
     Ok((node::paren(alloc, line, inner)?, rest))
 }
 
@@ -192,21 +192,21 @@ fn operand(
 fn prefixed(alloc: Global, depth: u16, t: &[Token]) -> Result<(Measured, &[Token]), Refusal>
     ensures gives { Gives (λ x. ((x.0.expr, x.0.height), x.1.now)) result (parts.prefixed depth t.now) }
 {
-    if let Some((step, line, rest)) = front::step(t) {
+    if let Some((step, line, rest)) = lookahead::step(t) {
         if depth == 0 {
             return Err(Refusal::Deep(t));
         }
         let (inner, rest) = expression(alloc, Rank::Unary, depth, rest)?;
         return Ok((node::prefix(alloc, line, step, inner)?, rest));
     }
-    if let Some((op, line, rest)) = front::unary_operator(t) {
+    if let Some((op, line, rest)) = lookahead::unary_operator(t) {
         if depth == 0 {
             return Err(Refusal::Deep(t));
         }
         let (inner, rest) = expression(alloc, Rank::Cast, depth, rest)?;
         return Ok((node::unary(alloc, line, op, inner)?, rest));
     }
-    if front::at_name(t) {
+    if lookahead::at_name(t) {
         return named(alloc, depth, t);
     }
     constant(t)
@@ -244,17 +244,17 @@ fn constant(t: &[Token]) -> Result<(Measured, &[Token]), Refusal>
 fn named(alloc: Global, depth: u16, t: &[Token]) -> Result<(Measured, &[Token]), Refusal>
     ensures gives { Gives (λ x. ((x.0.expr, x.0.height), x.1.now)) result (parts.named depth t.now) }
 {
-    let (name, rest) = front::identifier(alloc, t)?;
-    if front::at(Punct::OpenBracket, rest) {
-        let (_, rest) = front::open(depth, Punct::OpenBracket, rest)?;
+    let (name, rest) = lookahead::identifier(alloc, t)?;
+    if lookahead::at(Punct::OpenBracket, rest) {
+        let (_, rest) = lookahead::open(depth, Punct::OpenBracket, rest)?;
         let (index, rest) = expression(alloc, Rank::Comma, depth, rest)?;
-        let (_, rest) = front::want(Punct::CloseBracket, rest)?;
+        let (_, rest) = lookahead::want(Punct::CloseBracket, rest)?;
         return Ok((node::index(alloc, name, index)?, rest));
     }
-    if front::at(Punct::OpenParen, rest) {
-        let (_, rest) = front::want(Punct::OpenParen, rest)?;
+    if lookahead::at(Punct::OpenParen, rest) {
+        let (_, rest) = lookahead::want(Punct::OpenParen, rest)?;
         let (arguments, rest) = arguments(alloc, depth, rest)?;
-        let (_, rest) = front::want(Punct::CloseParen, rest)?;
+        let (_, rest) = lookahead::want(Punct::CloseParen, rest)?;
         return Ok((node::call(name, arguments), rest));
     }
     Ok((
@@ -274,13 +274,13 @@ fn arguments(alloc: Global, depth: u16, t: &[Token]) -> Result<(Listed, &[Token]
     ensures bounded { IfOk result (λ x. x.0.height ≤ depth) }
 {
     let mut items = Items::new(alloc);
-    if !front::starts_expression(t) {
+    if !lookahead::starts_expression(t) {
         return Ok((Listed { items, height: 0 }, t));
     }
     let (first, mut rest) = expression(alloc, Rank::Assignment, depth, t)?;
     let mut height = first.height;
     items.push(first.expr)?;
-    'row: while let Some((_, next)) = front::after(Punct::Comma, rest) {
+    'row: while let Some((_, next)) = lookahead::after(Punct::Comma, rest) {
         let (next_item, next) = expression(alloc, Rank::Assignment, depth, next)?;
         height = height.max(next_item.height);
         items.push(next_item.expr)?;
@@ -304,7 +304,7 @@ pub fn specifiers(
     let line = first.line();
     let mut items = Items::new(alloc);
     items.push(first)?;
-    'row: while front::starts_specifiers(rest) {
+    'row: while lookahead::starts_specifiers(rest) {
         let (item, high, next) = specifier(alloc, depth, rest)?;
         height = height.max(high);
         items.push(item)?;
@@ -318,13 +318,13 @@ pub fn specifiers(
 fn specifier(alloc: Global, depth: u16, t: &[Token]) -> Result<(Specifier, u32, &[Token]), Refusal>
     ensures gives { Gives (λ x. ((x.0, x.1), x.2.now)) result (parts.specifier depth t.now) }
 {
-    if let Some((word, line, rest)) = front::specifier_word(t) {
+    if let Some((word, line, rest)) = lookahead::specifier_word(t) {
         return Ok((Specifier::Word { line, word }, 0, rest));
     }
-    let (line, rest) = front::want_word(Reserved::Enum, t)?;
-    if front::at_name(rest) {
-        let (tag, rest) = front::identifier(alloc, rest)?;
-        if !front::at(Punct::OpenBrace, rest) {
+    let (line, rest) = lookahead::want_word(Reserved::Enum, t)?;
+    if lookahead::at_name(rest) {
+        let (tag, rest) = lookahead::identifier(alloc, rest)?;
+        if !lookahead::at(Punct::OpenBrace, rest) {
             return Ok((Specifier::EnumTag { line, tag }, 0, rest));
         }
         let (enumerators, height, rest) = enumerators(alloc, depth, rest)?;
@@ -360,9 +360,9 @@ fn enumerators(
 ) -> Result<(Items<Enumerator>, u32, &[Token]), Refusal>
     ensures gives { Gives (λ x. ((x.0, x.1), x.2.now)) result (parts.enumerators depth t.now) }
 {
-    let (_, rest) = front::want(Punct::OpenBrace, t)?;
+    let (_, rest) = lookahead::want(Punct::OpenBrace, t)?;
     let (items, height, rest) = enumerator_list(alloc, depth, rest)?;
-    let (_, rest) = front::want(Punct::CloseBrace, rest)?;
+    let (_, rest) = lookahead::want(Punct::CloseBrace, rest)?;
     Ok((items, height, rest))
 }
 
@@ -378,7 +378,7 @@ fn enumerator_list(
     let (first, mut height, mut rest) = enumerator(alloc, depth, t)?;
     let mut items = Items::new(alloc);
     items.push(first)?;
-    'row: while let Some((_, next)) = front::after(Punct::Comma, rest) {
+    'row: while let Some((_, next)) = lookahead::after(Punct::Comma, rest) {
         let (item, high, next) = enumerator(alloc, depth, next)?;
         height = height.max(high);
         items.push(item)?;
@@ -396,11 +396,11 @@ fn enumerator(
 ) -> Result<(Enumerator, u32, &[Token]), Refusal>
     ensures gives { Gives (λ x. ((x.0, x.1), x.2.now)) result (parts.enumerator depth t.now) }
 {
-    let (name, rest) = front::identifier(alloc, t)?;
-    if !front::at(Punct::Equals, rest) {
+    let (name, rest) = lookahead::identifier(alloc, t)?;
+    if !lookahead::at(Punct::Equals, rest) {
         return Ok((Enumerator { name, value: None }, 0, rest));
     }
-    let (_, rest) = front::open(depth, Punct::Equals, rest)?;
+    let (_, rest) = lookahead::open(depth, Punct::Equals, rest)?;
     let (value, rest) = expression(alloc, Rank::Conditional, depth, rest)?;
     let height = value.height;
     let value = Some(Boxed::new(alloc, value.expr)?);

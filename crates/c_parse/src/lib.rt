@@ -4,7 +4,7 @@
 mod declaration;
 mod expression;
 mod fault;
-mod front;
+mod lookahead;
 mod node;
 mod parser;
 mod precedence;

@@ -7,7 +7,7 @@ ghost use Rattle.c_parse.specs.Promise.{Answers, line_at};
 
 use crate::declaration::{declarator, typed};
 use crate::fault::{ParseFault, ParseKind};
-use crate::front;
+use crate::lookahead;
 use crate::refusal::Refusal;
 use crate::statement::block;
 use c_tree::{Declaration, Declarator, Function, Item, Module, Punct, Shape, Specifiers, Token};
@@ -80,7 +80,7 @@ fn items(alloc: Global, top: u16, t: &[Token]) -> Result<(Items<Item>, &[Token])
 {
     let mut items = Items::new(alloc);
     let mut rest = t;
-    'row: while front::starts_item(rest) {
+    'row: while lookahead::starts_item(rest) {
         let (item, next) = item(alloc, top, rest)?;
         items.push(item)?;
         rest = next;
@@ -93,11 +93,11 @@ fn item(alloc: Global, top: u16, t: &[Token]) -> Result<(Item, &[Token]), Refusa
     requires { 0 < top }
     ensures { Gives (λ x. (x.0, x.1.now)) result (parts.item top t.now) }
 {
-    if let Some((header, line, rest)) = front::include(t) {
+    if let Some((header, line, rest)) = lookahead::include(t) {
         return Ok((Item::Include { line, header }, rest));
     }
     let (specifiers, rest) = typed(alloc, top, t)?;
-    if let Some((_, rest)) = front::after(Punct::Semicolon, rest) {
+    if let Some((_, rest)) = lookahead::after(Punct::Semicolon, rest) {
         let declarators = Items::new(alloc);
         return Ok((
             Item::Declaration(Declaration {
@@ -128,7 +128,7 @@ fn declared(
         initialiser,
     } = first;
     if let Shape::Function(parameters) = shape {
-        if initialiser.is_none() && front::at(Punct::OpenBrace, rest) {
+        if initialiser.is_none() && lookahead::at(Punct::OpenBrace, rest) {
             let (body, rest) = block(alloc, top, top - 1, rest)?;
             return Ok((
                 Item::Function(Function {
@@ -167,7 +167,7 @@ fn declares(
     ensures { Gives (λ x. (x.0, x.1.now)) result (parts.declares top specifiers first t.now) }
 {
     let (declarators, rest) = others(alloc, top, first, t)?;
-    let (_, rest) = front::want(Punct::Semicolon, rest)?;
+    let (_, rest) = lookahead::want(Punct::Semicolon, rest)?;
     Ok((
         Item::Declaration(Declaration {
             specifiers,
@@ -190,7 +190,7 @@ fn others(
     let mut items = Items::new(alloc);
     items.push(first)?;
     let mut rest = t;
-    'row: while let Some((_, next)) = front::after(Punct::Comma, rest) {
+    'row: while let Some((_, next)) = lookahead::after(Punct::Comma, rest) {
         let (item, next) = declarator(alloc, top, next)?;
         items.push(item)?;
         rest = next;

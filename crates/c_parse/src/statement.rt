@@ -7,7 +7,7 @@ ghost use Rattle.c_parse.specs.Gives.{Gives};
 
 use crate::declaration::declaration;
 use crate::expression::expression;
-use crate::front;
+use crate::lookahead;
 use crate::precedence::Rank;
 use crate::refusal::Refusal;
 use c_tree::{Block, Declaration, Expr, Punct, Reserved, Stmt, Token};
@@ -28,9 +28,9 @@ fn part(alloc: Global, rank: Rank, depth: u16, t: &[Token]) -> Result<(Expr, &[T
 fn condition(alloc: Global, depth: u16, t: &[Token]) -> Result<(Expr, &[Token]), Refusal>
     ensures { Gives (λ x. (x.0, x.1.now)) result (parts.condition depth t.now) }
 {
-    let (_, rest) = front::want(Punct::OpenParen, t)?;
+    let (_, rest) = lookahead::want(Punct::OpenParen, t)?;
     let (e, rest) = part(alloc, Rank::Comma, depth, rest)?;
-    let (_, rest) = front::want(Punct::CloseParen, rest)?;
+    let (_, rest) = lookahead::want(Punct::CloseParen, rest)?;
     Ok((e, rest))
 }
 
@@ -42,7 +42,7 @@ fn optional_part(
 ) -> Result<(Option<Expr>, &[Token]), Refusal>
     ensures { Gives (λ x. (x.0, x.1.now)) result (parts.optional_part depth t.now) }
 {
-    if !front::starts_expression(t) {
+    if !lookahead::starts_expression(t) {
         return Ok((None, t));
     }
     let (e, rest) = part(alloc, Rank::Comma, depth, t)?;
@@ -55,7 +55,7 @@ fn clause(alloc: Global, depth: u16, t: &[Token]) -> Result<(Option<Expr>, &[Tok
     ensures { Gives (λ x. (x.0, x.1.now)) result (parts.clause depth t.now) }
 {
     let (e, rest) = optional_part(alloc, depth, t)?;
-    let (_, rest) = front::want(Punct::Semicolon, rest)?;
+    let (_, rest) = lookahead::want(Punct::Semicolon, rest)?;
     Ok((e, rest))
 }
 
@@ -89,9 +89,9 @@ fn clauses(alloc: Global, depth: u16, t: &[Token]) -> Result<(LoopHead, &[Token]
 fn head(alloc: Global, depth: u16, t: &[Token]) -> Result<(LoopHead, &[Token]), Refusal>
     ensures { Gives (λ x. ((x.0.first, (x.0.condition, x.0.step)), x.1.now)) result (parts.head depth t.now) }
 {
-    let (_, rest) = front::want(Punct::OpenParen, t)?;
+    let (_, rest) = lookahead::want(Punct::OpenParen, t)?;
     let (clauses, rest) = clauses(alloc, depth, rest)?;
-    let (_, rest) = front::want(Punct::CloseParen, rest)?;
+    let (_, rest) = lookahead::want(Punct::CloseParen, rest)?;
     Ok((clauses, rest))
 }
 
@@ -106,7 +106,7 @@ fn declarations(
 {
     let mut items = Items::new(alloc);
     let mut rest = t;
-    'row: while front::starts_specifiers(rest) {
+    'row: while lookahead::starts_specifiers(rest) {
         let (item, next) = declaration(alloc, top, rest)?;
         items.push(item)?;
         rest = next;
@@ -119,21 +119,21 @@ fn declarations(
 fn simple(alloc: Global, depth: u16, t: &[Token]) -> Result<(Stmt, &[Token]), Refusal>
     ensures { Gives (λ x. (x.0, x.1.now)) result (parts.simple depth t.now) }
 {
-    if let Some((line, rest)) = front::after_word(Reserved::Break, t) {
-        let (_, rest) = front::want(Punct::Semicolon, rest)?;
+    if let Some((line, rest)) = lookahead::after_word(Reserved::Break, t) {
+        let (_, rest) = lookahead::want(Punct::Semicolon, rest)?;
         return Ok((Stmt::Break { line }, rest));
     }
-    if let Some((line, rest)) = front::after_word(Reserved::Continue, t) {
-        let (_, rest) = front::want(Punct::Semicolon, rest)?;
+    if let Some((line, rest)) = lookahead::after_word(Reserved::Continue, t) {
+        let (_, rest) = lookahead::want(Punct::Semicolon, rest)?;
         return Ok((Stmt::Continue { line }, rest));
     }
-    if let Some((line, rest)) = front::after_word(Reserved::Return, t) {
+    if let Some((line, rest)) = lookahead::after_word(Reserved::Return, t) {
         let (value, rest) = optional_part(alloc, depth, rest)?;
-        let (_, rest) = front::want(Punct::Semicolon, rest)?;
+        let (_, rest) = lookahead::want(Punct::Semicolon, rest)?;
         return Ok((Stmt::Return { line, value }, rest));
     }
     let (e, rest) = part(alloc, Rank::Comma, depth, t)?;
-    let (_, rest) = front::want(Punct::Semicolon, rest)?;
+    let (_, rest) = lookahead::want(Punct::Semicolon, rest)?;
     Ok((Stmt::Expression(e), rest))
 }
 
@@ -143,7 +143,7 @@ fn statement(alloc: Global, top: u16, depth: u16, t: &[Token]) -> Result<(Stmt, 
     ensures { Gives (λ x. (x.0, x.1.now)) result (parts.statement top depth t.now) }
 {
     if depth == 0 {
-        if front::starts_statement(t) {
+        if lookahead::starts_statement(t) {
             return Err(Refusal::Deep(t));
         }
         return Err(Refusal::Wrong(t));
@@ -163,7 +163,7 @@ fn statements(
 {
     let mut items = Items::new(alloc);
     let mut rest = t;
-    'row: while front::starts_statement(rest) {
+    'row: while lookahead::starts_statement(rest) {
         let (item, next) = statement(alloc, top, depth, rest)?;
         items.push(item)?;
         rest = next;
@@ -177,10 +177,10 @@ fn statements(
 pub fn block(alloc: Global, top: u16, depth: u16, t: &[Token]) -> Result<(Block, &[Token]), Refusal>
     ensures { Gives (λ x. (x.0, x.1.now)) result (parts.block top depth t.now) }
 {
-    let (line, rest) = front::want(Punct::OpenBrace, t)?;
+    let (line, rest) = lookahead::want(Punct::OpenBrace, t)?;
     let (declarations, rest) = declarations(alloc, top, rest)?;
     let (statements, rest) = statements(alloc, top, depth, rest)?;
-    let (_, rest) = front::want(Punct::CloseBrace, rest)?;
+    let (_, rest) = lookahead::want(Punct::CloseBrace, rest)?;
     Ok((
         Block {
             line,
@@ -214,9 +214,9 @@ fn guarded(
 fn selection(alloc: Global, top: u16, depth: u16, t: &[Token]) -> Result<(Stmt, &[Token]), Refusal>
     ensures { Gives (λ x. (x.0, x.1.now)) result (parts.selection top depth t.now) }
 {
-    let (line, rest) = front::open_word(depth, Reserved::If, t)?;
+    let (line, rest) = lookahead::open_word(depth, Reserved::If, t)?;
     let (condition, then, rest) = guarded(alloc, top, depth, rest)?;
-    let Some((_, rest)) = front::after_word(Reserved::Else, rest) else {
+    let Some((_, rest)) = lookahead::after_word(Reserved::Else, rest) else {
         return Ok((
             Stmt::If {
                 line,
@@ -244,7 +244,7 @@ fn selection(alloc: Global, top: u16, depth: u16, t: &[Token]) -> Result<(Stmt, 
 fn switch(alloc: Global, top: u16, depth: u16, t: &[Token]) -> Result<(Stmt, &[Token]), Refusal>
     ensures { Gives (λ x. (x.0, x.1.now)) result (parts.switch top depth t.now) }
 {
-    let (line, rest) = front::open_word(depth, Reserved::Switch, t)?;
+    let (line, rest) = lookahead::open_word(depth, Reserved::Switch, t)?;
     let (value, body, rest) = guarded(alloc, top, depth, rest)?;
     Ok((Stmt::Switch { line, value, body }, rest))
 }
@@ -254,7 +254,7 @@ fn switch(alloc: Global, top: u16, depth: u16, t: &[Token]) -> Result<(Stmt, &[T
 fn while_loop(alloc: Global, top: u16, depth: u16, t: &[Token]) -> Result<(Stmt, &[Token]), Refusal>
     ensures { Gives (λ x. (x.0, x.1.now)) result (parts.while_loop top depth t.now) }
 {
-    let (line, rest) = front::open_word(depth, Reserved::While, t)?;
+    let (line, rest) = lookahead::open_word(depth, Reserved::While, t)?;
     let (condition, body, rest) = guarded(alloc, top, depth, rest)?;
     Ok((
         Stmt::While {
@@ -271,12 +271,12 @@ fn while_loop(alloc: Global, top: u16, depth: u16, t: &[Token]) -> Result<(Stmt,
 fn do_while(alloc: Global, top: u16, depth: u16, t: &[Token]) -> Result<(Stmt, &[Token]), Refusal>
     ensures { Gives (λ x. (x.0, x.1.now)) result (parts.do_while top depth t.now) }
 {
-    let (line, rest) = front::open_word(depth, Reserved::Do, t)?;
+    let (line, rest) = lookahead::open_word(depth, Reserved::Do, t)?;
     let (body, rest) = statement(alloc, top, depth, rest)?;
     let body = Boxed::new(alloc, body)?;
-    let (_, rest) = front::want_word(Reserved::While, rest)?;
+    let (_, rest) = lookahead::want_word(Reserved::While, rest)?;
     let (condition, rest) = condition(alloc, depth, rest)?;
-    let (_, rest) = front::want(Punct::Semicolon, rest)?;
+    let (_, rest) = lookahead::want(Punct::Semicolon, rest)?;
     Ok((
         Stmt::Do {
             line,
@@ -292,7 +292,7 @@ fn do_while(alloc: Global, top: u16, depth: u16, t: &[Token]) -> Result<(Stmt, &
 fn for_loop(alloc: Global, top: u16, depth: u16, t: &[Token]) -> Result<(Stmt, &[Token]), Refusal>
     ensures { Gives (λ x. (x.0, x.1.now)) result (parts.for_loop top depth t.now) }
 {
-    let (line, rest) = front::open_word(depth, Reserved::For, t)?;
+    let (line, rest) = lookahead::open_word(depth, Reserved::For, t)?;
     let (head, rest) = head(alloc, depth, rest)?;
     let (body, rest) = statement(alloc, top, depth, rest)?;
     let body = Boxed::new(alloc, body)?;
@@ -314,9 +314,9 @@ fn for_loop(alloc: Global, top: u16, depth: u16, t: &[Token]) -> Result<(Stmt, &
 fn case(alloc: Global, top: u16, depth: u16, t: &[Token]) -> Result<(Stmt, &[Token]), Refusal>
     ensures { Gives (λ x. (x.0, x.1.now)) result (parts.case top depth t.now) }
 {
-    let (line, rest) = front::open_word(depth, Reserved::Case, t)?;
+    let (line, rest) = lookahead::open_word(depth, Reserved::Case, t)?;
     let (value, rest) = part(alloc, Rank::Conditional, depth, rest)?;
-    let (_, rest) = front::want(Punct::Colon, rest)?;
+    let (_, rest) = lookahead::want(Punct::Colon, rest)?;
     let (body, rest) = statement(alloc, top, depth, rest)?;
     let body = Boxed::new(alloc, body)?;
     Ok((Stmt::Case { line, value, body }, rest))
@@ -328,8 +328,8 @@ fn case(alloc: Global, top: u16, depth: u16, t: &[Token]) -> Result<(Stmt, &[Tok
 fn default(alloc: Global, top: u16, depth: u16, t: &[Token]) -> Result<(Stmt, &[Token]), Refusal>
     ensures { Gives (λ x. (x.0, x.1.now)) result (parts.default top depth t.now) }
 {
-    let (line, rest) = front::open_word(depth, Reserved::Default, t)?;
-    let (_, rest) = front::want(Punct::Colon, rest)?;
+    let (line, rest) = lookahead::open_word(depth, Reserved::Default, t)?;
+    let (_, rest) = lookahead::want(Punct::Colon, rest)?;
     let (body, rest) = statement(alloc, top, depth, rest)?;
     let body = Boxed::new(alloc, body)?;
     Ok((Stmt::Default { line, body }, rest))
@@ -341,32 +341,32 @@ fn default(alloc: Global, top: u16, depth: u16, t: &[Token]) -> Result<(Stmt, &[
 fn compound(alloc: Global, top: u16, depth: u16, t: &[Token]) -> Result<(Stmt, &[Token]), Refusal>
     ensures { Gives (λ x. (x.0, x.1.now)) result (parts.compound top depth t.now) }
 {
-    if front::at(Punct::OpenBrace, t) {
+    if lookahead::at(Punct::OpenBrace, t) {
         let (block, rest) = block(alloc, top, depth, t)?;
         return Ok((Stmt::Block(block), rest));
     }
-    if let Some((line, rest)) = front::after(Punct::Semicolon, t) {
+    if let Some((line, rest)) = lookahead::after(Punct::Semicolon, t) {
         return Ok((Stmt::Empty { line }, rest));
     }
-    if front::at_word(Reserved::If, t) {
+    if lookahead::at_word(Reserved::If, t) {
         return selection(alloc, top, depth, t);
     }
-    if front::at_word(Reserved::Switch, t) {
+    if lookahead::at_word(Reserved::Switch, t) {
         return switch(alloc, top, depth, t);
     }
-    if front::at_word(Reserved::While, t) {
+    if lookahead::at_word(Reserved::While, t) {
         return while_loop(alloc, top, depth, t);
     }
-    if front::at_word(Reserved::Do, t) {
+    if lookahead::at_word(Reserved::Do, t) {
         return do_while(alloc, top, depth, t);
     }
-    if front::at_word(Reserved::For, t) {
+    if lookahead::at_word(Reserved::For, t) {
         return for_loop(alloc, top, depth, t);
     }
-    if front::at_word(Reserved::Case, t) {
+    if lookahead::at_word(Reserved::Case, t) {
         return case(alloc, top, depth, t);
     }
-    if front::at_word(Reserved::Default, t) {
+    if lookahead::at_word(Reserved::Default, t) {
         return default(alloc, top, depth, t);
     }
     simple(alloc, depth, t)

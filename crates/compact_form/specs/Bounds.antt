@@ -121,7 +121,8 @@ bounded r h =
     let fit = blocks_fit r.blocks (blocks_size r.blocks) (omega arith) l.size l.instrs h.words.blocks in
     let words = summed_words r.arrays max_elements l.elements (omega arith) in
     let some = (spelled_short r.pid (omega (arith, l.pid))).0 in
-    let head = all_short (head_numbers r) (omega (arith, l.pid), (omega (arith, l.params), (flag_word r.value, (omega (arith, l.regs), (h.words.entry, tt))))) in
+    let head = all_short (head_numbers r) (omega (arith, l.pid), (omega (arith, l.params), (flag_word r.value, (omega (arith, l.regs), (h.words.entry, tt)))))
+    in
     let count = (spelled_short (length r.arrays) (omega (arith, l.arrays))).1 in
     let arrays = all_short r.arrays words in
     let few = few_blocks r.blocks in

@@ -1,10 +1,12 @@
 -- What is read is what the compact form has, on both sides.
-use Rattle.std.proofs.Common.{◌≡◌, ℕ, ◌+◌, ◌-◌, ◌<◌, ◌≤◌, ◌^◌, Bool, true, false, List, [], ◌∷◌, ◌++◌, length, Option, Some, None, refl, sym, ◌∙◌, ap, subst, arith, append-nil, append_assoc}
+use Rattle.std.proofs.Common.{◌≡◌, ℕ, ◌+◌, ◌-◌, ◌<◌, ◌≤◌, ◌^◌, Bool, true, false, List, [], ◌∷◌, ◌++◌, length, Option, Some, None, refl, sym, ◌∙◌, ap}
+use Rattle.std.proofs.Common.{subst, arith, append-nil, append_assoc}
 use Rattle.std.specs.Prelude.{◌==◌, IsTrue, nat_lt, nat_le, if◌then◌else◌}
 use Rattle.std.specs.List.{AllByRecursion}
 use Rattle.std.proofs.lemmas.Bool.{lt-ltb, ltb-true, ltb-false, le-leb, leb-true, eqb-true}
 use Rattle.hlo_num.specs.declared.word.Op.{Op}
-use Rattle.hlo_num.specs.declared.word.Op.TheVariants.{AddS, AddU, SubS, SubU, MulS, MulU, DivS, DivU, RemS, RemU, And, Or, Xor, Shl, ShrS, ShrU, Eq, Ne, LtS, LtU, LeS, LeU}
+use Rattle.hlo_num.specs.declared.word.Op.TheVariants.{AddS, AddU, SubS, SubU, MulS, MulU, DivS, DivU, RemS, RemU, And, Or, Xor, Shl, ShrS, ShrU, Eq}
+use Rattle.hlo_num.specs.declared.word.Op.TheVariants.{Ne, LtS, LtU, LeS, LeU}
 use Rattle.hlo_num.specs.declared.word.Ty.{Ty}
 use Rattle.hlo_num.specs.declared.word.Ty.TheVariants.{Char, UChar, Short, UShort, Int, UInt, Long, ULong}
 use Rattle.hlo_num.specs.Words.{is_narrow}
@@ -21,7 +23,10 @@ use Rattle.compact_form.specs.declared.opcode.EndCode.{EndCode}
 use Rattle.compact_form.specs.declared.opcode.EndCode.TheVariants as end_code
 use Rattle.compact_form.specs.Numbers.{spelled, spelled_all}
 use Rattle.compact_form.specs.Compact.{place_of, number_of, opcode, operands, instr_form, end_opcode, end_operands, end_form, counted, block_form}
-use Rattle.compact_form.specs.Reading.{Reply, goes, read_list, list_up_to, read_number, read_pair, read_triple, byte_of, end_byte_of, first_of_number, operators, operator_at, plain_codes, bin_code, opcode_at, end_codes, end_code_at, narrow_types, narrow_at, with_some, kept, is_pid, read_args, read_counted, read_call, read_operands, read_instr, read_end_operands, read_end, read_block}
+use Rattle.compact_form.specs.Reading.{Reply, goes, read_list, list_up_to, read_number, read_pair, read_triple, byte_of, end_byte_of, first_of_number}
+use Rattle.compact_form.specs.Reading.{operators, operator_at, fixed_codes, bin_code, opcode_at, end_codes, end_code_at, narrow_types, narrow_at}
+use Rattle.compact_form.specs.Reading.{with_some, kept, is_pid, read_args, read_counted, read_call, read_operands, read_instr, read_end_operands}
+use Rattle.compact_form.specs.Reading.{read_end, read_block}
 use Rattle.compact_form.specs.Lists.{same_reply, goes_back, kept_back, Reads, reads_number, list_complete, list_sound, reads_counted}
 
 -- ---- rows of numbers
@@ -51,7 +56,8 @@ reads_pair = record {
       let left = reads_number.sound bs a.0 a.1 a.2 in
       let right = reads_number.sound a.1 b.0 b.1 b.2 in
       let split : bs ≡ spelled_all (a.0 ∷ b.0 ∷ []) ++ rest =
-      left.0 ∙ ap (λ l. spelled a.0 ++ l) (right.0 ∙ ap (λ l. spelled b.0 ++ l) same.1 ∙ sym (append_assoc (spelled b.0) [] rest)) ∙ sym (append_assoc (spelled a.0) (spelled_all (b.0 ∷ [])) rest) in
+      left.0 ∙ ap (λ l. spelled a.0 ++ l) (right.0 ∙ ap (λ l. spelled b.0 ++ l) same.1 ∙ sym (append_assoc (spelled b.0) [] rest)) ∙ sym
+      (append_assoc (spelled a.0) (spelled_all (b.0 ∷ [])) rest) in
       subst (λ y. (bs ≡ two_form y ++ rest) × AreTwo y) same.0 (split, (left.1, right.1));
 }
 
@@ -86,11 +92,13 @@ reads_triple = record {
 
 -- ---- tables
 
-first_sound : {X : Type 0} (number : X → ℕ) (n : ℕ) (P : X → Type 0) (xs : List X) (x : X) → AllByRecursion P xs → first_of_number number n xs ≡ Some x → (number x ≡ n) × P x
+first_sound : {X : Type 0} (number : X → ℕ) (n : ℕ) (P : X → Type 0) (xs : List X) (x : X) → AllByRecursion P xs → first_of_number number n xs ≡ Some x
+    → (number x ≡ n) × P x
 first_sound number n P [] x all h = absurd (cc)
 first_sound number n P (y ∷ ys) x all h = at (number y == n) refl (λ g. first_sound number n P ys x all.1 g) h
   where
-    at : (t : Bool) → (number y == n) ≡ t → (first_of_number number n ys ≡ Some x → (number x ≡ n) × P x) → (if t then Some y else first_of_number number n ys) ≡ Some x → (number x ≡ n) × P x
+    at : (t : Bool) → (number y == n) ≡ t → (first_of_number number n ys ≡ Some x → (number x ≡ n) × P x)
+        → (if t then Some y else first_of_number number n ys) ≡ Some x → (number x ≡ n) × P x
     at true is others g = let same : y ≡ x = cc g in subst (λ z. (number z ≡ n) × P z) same (eqb-true (number y) n is, all.0)
     at false is others g = others g
 
@@ -149,11 +157,13 @@ opcode_sound b k h = at (nat_lt b 16) refl h
     bin None le is g = absurd (cc)
     bin (Some o) le is g =
         let same : code.Bin o ≡ k = cc g in
-        let place = (first_sound place_of (b - 16) (λ _. Unit {0}) operators o (tt, (tt, (tt, (tt, (tt, (tt, (tt, (tt, (tt, (tt, (tt, (tt, (tt, (tt, (tt, (tt, (tt, (tt, (tt, (tt, (tt, (tt, tt)))))))))))))))))))))) is).0 in
+        let place = (first_sound place_of (b - 16) (λ _. Unit {0}) operators o
+        (tt, (tt, (tt, (tt, (tt, (tt, (tt, (tt, (tt, (tt, (tt, (tt, (tt, (tt, (tt, (tt, (tt, (tt, (tt, (tt, (tt, (tt, tt)))))))))))))))))))))) is).0 in
         ap byte_of (sym same) ∙ omega (arith, place)
 
-    at : (t : Bool) → nat_lt b 16 ≡ t → (if t then first_of_number byte_of b plain_codes else bin_code (operator_at (b - 16))) ≡ Some k → byte_of k ≡ b
-    at true is g = (first_sound byte_of b (λ _. Unit {0}) plain_codes k (tt, (tt, (tt, (tt, (tt, (tt, (tt, (tt, (tt, (tt, (tt, (tt, (tt, (tt, (tt, tt))))))))))))))) g).0
+    at : (t : Bool) → nat_lt b 16 ≡ t → (if t then first_of_number byte_of b fixed_codes else bin_code (operator_at (b - 16))) ≡ Some k → byte_of k ≡ b
+    at true is g = (first_sound byte_of b (λ _. Unit {0}) fixed_codes k
+        (tt, (tt, (tt, (tt, (tt, (tt, (tt, (tt, (tt, (tt, (tt, (tt, (tt, (tt, (tt, tt))))))))))))))) g).0
     at false is g = bin (operator_at (b - 16)) (ltb-false b 16 is) refl g
 
 end_code_sound : (b : ℕ) (k : EndCode) → end_code_at b ≡ Some k → end_byte_of k ≡ b
@@ -216,10 +226,17 @@ record Operands (k : Opcode) (bs : List ℕ) (i : Instr) (rest : List ℕ) : Typ
   split : bs ≡ spelled_all (operands i) ++ rest
   fits : Fits i
 
-from_tested : {A : Type 0} (p : List ℕ → Reply A) (form : A → List ℕ) (ok : A → Type 0) (reads : Reads p form ok) (test : A → Bool) (f : A → Instr) (k : Opcode) → ((x : A) → opcode (f x) ≡ byte_of k) → ((x : A) → form x ≡ spelled_all (operands (f x))) → ((x : A) → ok x → test x ≡ true → Fits (f x)) → (bs : List ℕ) (i : Instr) (rest : List ℕ) → goes (p bs) (λ x r. kept (test x) (f x) r) ≡ Some (i, rest) → Operands k bs i rest
+from_tested : {A : Type 0} (p : List ℕ → Reply A) (form : A → List ℕ) (ok : A → Type 0) (reads : Reads p form ok) (test : A → Bool) (f : A → Instr) (k : Opcode)
+    → ((x : A) → opcode (f x) ≡ byte_of k) → ((x : A) → form x ≡ spelled_all (operands (f x))) → ((x : A) → ok x → test x ≡ true → Fits (f x))
+    → (bs : List ℕ) (i : Instr) (rest : List ℕ) → goes (p bs) (λ x r. kept (test x) (f x) r) ≡ Some (i, rest) → Operands k bs i rest
 from_tested p form ok reads test f k byte formed fitting bs i rest h =
     let t = tested_sound p form ok reads test f bs i rest h in
-    subst (λ j. Operands k bs j rest) t.made (record { byte = byte t.value; split = t.split ∙ ap (λ l. l ++ rest) (formed t.value); fits = fitting t.value t.fits t.passes })
+    subst (λ j. Operands k bs j rest) t.made (record {
+      byte = byte t.value;
+      split = t.split ∙ ap (λ l. l ++ rest) (formed t.value);
+      fits = fitting t.value
+          t.fits t.passes;
+    })
 
 pid_true : (n : ℕ) → is_pid n ≡ true → n < max_pids
 pid_true n h = ltb-true n max_pids h
@@ -269,7 +286,8 @@ clear_sound bs i rest h =
       fits = (tt, (left.1.0, (left.1.1, (right.1.0, (right.1.1, tt)))));
     })
 
-clear_complete : (a b c d : ℕ) (rest : List ℕ) → a < 2 ^ 32 → b < 2 ^ 32 → c < 2 ^ 32 → d < 2 ^ 32 → goes (read_pair (spelled_all (a ∷ b ∷ c ∷ d ∷ []) ++ rest)) clear_go ≡ Some (Clear a b c d, rest)
+clear_complete : (a b c d : ℕ) (rest : List ℕ) → a < 2 ^ 32 → b < 2 ^ 32 → c < 2 ^ 32 → d < 2 ^ 32
+    → goes (read_pair (spelled_all (a ∷ b ∷ c ∷ d ∷ []) ++ rest)) clear_go ≡ Some (Clear a b c d, rest)
 clear_complete a b c d rest la lb lc ld =
     ap (λ l. goes (read_pair l) clear_go) (sym (four_row a b c d rest))
     ∙ ap (λ r. goes r clear_go) (reads_pair.complete (a, b) (two_form (c, d) ++ rest) (la, lb))
@@ -283,12 +301,15 @@ call_last dest x args s = Some (Call dest x.0 x.1 args, s)
 call_row : (f n l : ℕ) (args rest : List ℕ) → three_form (f, n, l) ++ (spelled_all args ++ rest) ≡ spelled_all (f ∷ n ∷ l ∷ args) ++ rest
 call_row f n l args rest = simp append_assoc
 
-call_complete : (dest : Option ℕ) (f n : ℕ) (args rest : List ℕ) → f < max_pids → n < 2 ^ 32 → AreWords args → length args ≤ max_parameters → read_call dest (spelled_all (f ∷ n ∷ length args ∷ args) ++ rest) ≡ Some (Call dest f n args, rest)
+call_complete : (dest : Option ℕ) (f n : ℕ) (args rest : List ℕ) → f < max_pids → n < 2 ^ 32 → AreWords args → length args ≤ max_parameters
+    → read_call dest (spelled_all (f ∷ n ∷ length args ∷ args) ++ rest) ≡ Some (Call dest f n args, rest)
 call_complete dest f n args rest pid word words few =
     ap (read_call dest) (sym (call_row f n (length args) args rest))
     ∙ ap (λ r. goes r (λ x us. read_args dest x us)) (reads_triple.complete (f, n, length args) (spelled_all args ++ rest) (omega arith, word, omega arith))
-    ∙ ap (λ b. if b then goes (list_up_to read_number max_parameters (length args) (spelled_all args ++ rest)) (call_last dest (f, n, length args)) else None) (pid_there f pid)
-    ∙ ap (λ b. goes (if b then read_list read_number (length args) (spelled_all args ++ rest) else None) (call_last dest (f, n, length args))) (le-leb (length args) max_parameters few)
+    ∙ ap (λ b. if b then goes (list_up_to read_number max_parameters (length args) (spelled_all args ++ rest)) (call_last dest (f, n, length args)) else None)
+    (pid_there f pid)
+    ∙ ap (λ b. goes (if b then read_list read_number (length args) (spelled_all args ++ rest) else None) (call_last dest (f, n, length args)))
+    (le-leb (length args) max_parameters few)
     ∙ ap (λ r. goes r (call_last dest (f, n, length args))) (list_complete read_number spelled (λ m. m < 2 ^ 32) reads_number args rest words)
 
 record Called (dest : Option ℕ) (bs : List ℕ) (i : Instr) (rest : List ℕ) : Type 0 where
@@ -316,7 +337,8 @@ call_sound dest bs i rest h =
       count = a.0.1;
       args = c.0;
       made = same.0;
-      split = s.0 ∙ ap (λ us. three_form a.0 ++ us) (l.split ∙ ap (λ us. spelled_all c.0 ++ us) same.1) ∙ call_row a.0.0 a.0.1 a.0.2 c.0 rest ∙ ap (λ m. spelled_all (a.0.0 ∷ a.0.1 ∷ m ∷ c.0) ++ rest) (sym l.count);
+      split = s.0 ∙ ap (λ us. three_form a.0 ++ us) (l.split ∙ ap (λ us. spelled_all c.0 ++ us) same.1) ∙ call_row a.0.0 a.0.1 a.0.2 c.0 rest ∙ ap
+          (λ m. spelled_all (a.0.0 ∷ a.0.1 ∷ m ∷ c.0) ++ rest) (sym l.count);
       pid = pid_true a.0.0 b.0;
       word = s.1.1;
       few = omega (arith, l.count, leb-true a.0.2 max_parameters d.0);
@@ -326,22 +348,35 @@ call_sound dest bs i rest h =
 -- ---- one instruction
 
 operands_sound : (k : Opcode) (bs : List ℕ) (i : Instr) (rest : List ℕ) → read_operands k bs ≡ Some (i, rest) → Operands k bs i rest
-operands_sound code.Const bs i rest h = from_tested {A = ℕ × ℕ} read_pair two_form AreTwo reads_pair (λ _. true) (λ x. Const x.0 (record { 0 = x.1 })) code.Const (λ x. refl) (λ x. refl) (λ x w t. (tt, (w.0, (w.1, tt)))) bs i rest h
-operands_sound code.Move bs i rest h = from_tested {A = ℕ × ℕ} read_pair two_form AreTwo reads_pair (λ _. true) (λ x. Move x.0 x.1) code.Move (λ x. refl) (λ x. refl) (λ x w t. (tt, (w.0, (w.1, tt)))) bs i rest h
+operands_sound code.Const bs i rest h = from_tested {A = ℕ × ℕ} read_pair two_form AreTwo reads_pair (λ _. true) (λ x. Const x.0 (record { 0 = x.1 }))
+    code.Const (λ x. refl) (λ x. refl) (λ x w t. (tt, (w.0, (w.1, tt)))) bs i rest h
+operands_sound code.Move bs i rest h = from_tested {A = ℕ × ℕ} read_pair two_form AreTwo reads_pair (λ _. true) (λ x. Move x.0 x.1) code.Move (λ x. refl)
+    (λ x. refl) (λ x w t. (tt, (w.0, (w.1, tt)))) bs i rest h
 operands_sound code.Conv bs i rest h = conv_sound bs i rest h
-operands_sound code.Get bs i rest h = from_tested {A = ℕ × ℕ} read_pair two_form AreTwo reads_pair (λ x. is_pid x.1) (λ x. Get x.0 x.1) code.Get (λ x. refl) (λ x. refl) (λ x w t. (pid_true x.1 t, (w.0, (w.1, tt)))) bs i rest h
-operands_sound code.Set bs i rest h = from_tested {A = ℕ × ℕ} read_pair two_form AreTwo reads_pair (λ x. is_pid x.0) (λ x. Set x.0 x.1) code.Set (λ x. refl) (λ x. refl) (λ x w t. (pid_true x.0 t, (w.0, (w.1, tt)))) bs i rest h
-operands_sound code.GetX bs i rest h = from_tested {A = ℕ × ℕ × ℕ} read_triple three_form AreThree reads_triple (λ x. is_pid x.1) (λ x. GetX x.0 x.1 x.2) code.GetX (λ x. refl) (λ x. refl) (λ x w t. (pid_true x.1 t, (w.0, (w.1, (w.2, tt))))) bs i rest h
-operands_sound code.SetX bs i rest h = from_tested {A = ℕ × ℕ × ℕ} read_triple three_form AreThree reads_triple (λ x. is_pid x.0) (λ x. SetX x.0 x.1 x.2) code.SetX (λ x. refl) (λ x. refl) (λ x w t. (pid_true x.0 t, (w.0, (w.1, (w.2, tt))))) bs i rest h
-operands_sound code.GetA bs i rest h = from_tested {A = ℕ × ℕ × ℕ} read_triple three_form AreThree reads_triple (λ _. true) (λ x. GetA x.0 x.1 x.2) code.GetA (λ x. refl) (λ x. refl) (λ x w t. (tt, (w.0, (w.1, (w.2, tt))))) bs i rest h
-operands_sound code.SetA bs i rest h = from_tested {A = ℕ × ℕ × ℕ} read_triple three_form AreThree reads_triple (λ _. true) (λ x. SetA x.0 x.1 x.2) code.SetA (λ x. refl) (λ x. refl) (λ x w t. (tt, (w.0, (w.1, (w.2, tt))))) bs i rest h
+operands_sound code.Get bs i rest h = from_tested {A = ℕ × ℕ} read_pair two_form AreTwo reads_pair (λ x. is_pid x.1) (λ x. Get x.0 x.1) code.Get (λ x. refl)
+    (λ x. refl) (λ x w t. (pid_true x.1 t, (w.0, (w.1, tt)))) bs i rest h
+operands_sound code.Set bs i rest h = from_tested {A = ℕ × ℕ} read_pair two_form AreTwo reads_pair (λ x. is_pid x.0) (λ x. Set x.0 x.1) code.Set (λ x. refl)
+    (λ x. refl) (λ x w t. (pid_true x.0 t, (w.0, (w.1, tt)))) bs i rest h
+operands_sound code.GetX bs i rest h = from_tested {A = ℕ × ℕ × ℕ} read_triple three_form AreThree reads_triple (λ x. is_pid x.1) (λ x. GetX x.0 x.1 x.2)
+    code.GetX (λ x. refl) (λ x. refl) (λ x w t. (pid_true x.1 t, (w.0, (w.1, (w.2, tt))))) bs i rest h
+operands_sound code.SetX bs i rest h = from_tested {A = ℕ × ℕ × ℕ} read_triple three_form AreThree reads_triple (λ x. is_pid x.0) (λ x. SetX x.0 x.1 x.2)
+    code.SetX (λ x. refl) (λ x. refl) (λ x w t. (pid_true x.0 t, (w.0, (w.1, (w.2, tt))))) bs i rest h
+operands_sound code.GetA bs i rest h = from_tested {A = ℕ × ℕ × ℕ} read_triple three_form AreThree reads_triple (λ _. true) (λ x. GetA x.0 x.1 x.2) code.GetA
+    (λ x. refl) (λ x. refl) (λ x w t. (tt, (w.0, (w.1, (w.2, tt))))) bs i rest h
+operands_sound code.SetA bs i rest h = from_tested {A = ℕ × ℕ × ℕ} read_triple three_form AreThree reads_triple (λ _. true) (λ x. SetA x.0 x.1 x.2) code.SetA
+    (λ x. refl) (λ x. refl) (λ x w t. (tt, (w.0, (w.1, (w.2, tt))))) bs i rest h
 operands_sound code.Clear bs i rest h = clear_sound bs i rest h
 operands_sound code.Turn bs i rest h =
     let same = same_reply Turn i bs rest h in
     subst (λ j. Operands code.Turn bs j rest) same.0 (record { byte = refl; split = same.1; fits = (tt, tt) })
 operands_sound code.CallVoid bs i rest h =
     let c = call_sound None bs i rest h in
-    subst (λ j. Operands code.CallVoid bs j rest) c.made (record { byte = refl; split = c.split; fits = ((c.pid, c.few), (omega (arith, c.pid), (c.word, c.words))) })
+    subst (λ j. Operands code.CallVoid bs j rest) c.made (record {
+      byte = refl;
+      split = c.split;
+      fits =
+          ((c.pid, c.few), (omega (arith, c.pid), (c.word, c.words)));
+    })
 operands_sound code.CallValue bs i rest h =
     let a = goes_back (read_number bs) (λ d r. read_call (Some d) r) (i, rest) h in
     let s = reads_number.sound bs a.0 a.1 a.2 in
@@ -351,9 +386,12 @@ operands_sound code.CallValue bs i rest h =
       split = s.0 ∙ ap (λ l. spelled a.0 ++ l) c.split ∙ sym (append_assoc (spelled a.0) (spelled_all (c.callee ∷ c.count ∷ length c.args ∷ c.args)) rest);
       fits = ((c.pid, c.few), (s.1, (omega (arith, c.pid), (c.word, c.words))));
     })
-operands_sound code.GetChar bs i rest h = from_tested read_number spelled (λ n. n < 2 ^ 32) reads_number (λ _. true) (λ d. GetChar d) code.GetChar (λ x. refl) (λ x. sym (append-nil (spelled x))) (λ x w t. (tt, (w, tt))) bs i rest h
-operands_sound code.PutChar bs i rest h = from_tested {A = ℕ × ℕ} read_pair two_form AreTwo reads_pair (λ _. true) (λ x. PutChar x.0 x.1) code.PutChar (λ x. refl) (λ x. refl) (λ x w t. (tt, (w.0, (w.1, tt)))) bs i rest h
-operands_sound (code.Bin o) bs i rest h = from_tested {A = ℕ × ℕ × ℕ} read_triple three_form AreThree reads_triple (λ _. true) (λ x. Bin o x.0 x.1 x.2) (code.Bin o) (λ x. refl) (λ x. refl) (λ x w t. (tt, (w.0, (w.1, (w.2, tt))))) bs i rest h
+operands_sound code.GetChar bs i rest h = from_tested read_number spelled (λ n. n < 2 ^ 32) reads_number (λ _. true) (λ d. GetChar d) code.GetChar (λ x. refl)
+    (λ x. sym (append-nil (spelled x))) (λ x w t. (tt, (w, tt))) bs i rest h
+operands_sound code.PutChar bs i rest h = from_tested {A = ℕ × ℕ} read_pair two_form AreTwo reads_pair (λ _. true) (λ x. PutChar x.0 x.1) code.PutChar
+    (λ x. refl) (λ x. refl) (λ x w t. (tt, (w.0, (w.1, tt)))) bs i rest h
+operands_sound (code.Bin o) bs i rest h = from_tested {A = ℕ × ℕ × ℕ} read_triple three_form AreThree reads_triple (λ _. true) (λ x. Bin o x.0 x.1 x.2)
+    (code.Bin o) (λ x. refl) (λ x. refl) (λ x w t. (tt, (w.0, (w.1, (w.2, tt))))) bs i rest h
 
 instr_sound : (bs : List ℕ) (i : Instr) (rest : List ℕ) → read_instr bs ≡ Some (i, rest) → (bs ≡ instr_form i ++ rest) × Fits i
 instr_sound [] i rest h = absurd (cc)
@@ -362,21 +400,30 @@ instr_sound (b ∷ bs) i rest h =
     let o = operands_sound k.0 bs i rest k.2 in
     (ap (λ x. x ∷ bs) (sym (opcode_sound b k.0 k.1) ∙ sym o.byte) ∙ ap (λ l. opcode i ∷ l) o.split, o.fits)
 
-number_complete : {B : Type 0} (n : ℕ) (rest : List ℕ) (go : ℕ → List ℕ → Reply B) → n < 2 ^ 32 → goes (read_number (spelled_all (n ∷ []) ++ rest)) go ≡ go n rest
+number_complete : {B : Type 0} (n : ℕ) (rest : List ℕ) (go : ℕ → List ℕ → Reply B) → n < 2 ^ 32
+    → goes (read_number (spelled_all (n ∷ []) ++ rest)) go ≡ go n rest
 number_complete n rest go word = ap (λ l. goes (read_number (l ++ rest)) go) (append-nil (spelled n)) ∙ ap (λ r. goes r go) (reads_number.complete n rest word)
 
 instr_complete : (i : Instr) (rest : List ℕ) → Fits i → read_instr (instr_form i ++ rest) ≡ Some (i, rest)
-instr_complete (Const d w) rest h = tested_complete {A = ℕ × ℕ} read_pair two_form AreTwo reads_pair (λ _. true) (λ x. Const x.0 (record { 0 = x.1 })) (d, w.0) rest (h.1.0, h.1.1.0) refl
-instr_complete (Move d s) rest h = tested_complete {A = ℕ × ℕ} read_pair two_form AreTwo reads_pair (λ _. true) (λ x. Move x.0 x.1) (d, s) rest (h.1.0, h.1.1.0) refl
+instr_complete (Const d w) rest h = tested_complete {A = ℕ × ℕ} read_pair two_form AreTwo reads_pair (λ _. true) (λ x. Const x.0 (record { 0 = x.1 })) (d, w.0)
+    rest (h.1.0, h.1.1.0) refl
+instr_complete (Move d s) rest h = tested_complete {A = ℕ × ℕ} read_pair two_form AreTwo reads_pair (λ _. true) (λ x. Move x.0 x.1) (d, s) rest (h.1.0, h.1.1.0)
+    refl
 instr_complete (Conv d t s) rest h =
     ap (λ r. goes r conv_go) (reads_triple.complete (d, number_of t, s) rest (h.1.0, number_is_word t, h.1.1.0))
     ∙ ap (λ o. with_some o (λ u. Some (Conv d u s, rest))) (narrow_there t h.0)
-instr_complete (Get d g) rest h = tested_complete {A = ℕ × ℕ} read_pair two_form AreTwo reads_pair (λ x. is_pid x.1) (λ x. Get x.0 x.1) (d, g) rest (h.1.0, h.1.1.0) (pid_there g h.0)
-instr_complete (Set g s) rest h = tested_complete {A = ℕ × ℕ} read_pair two_form AreTwo reads_pair (λ x. is_pid x.0) (λ x. Set x.0 x.1) (g, s) rest (h.1.0, h.1.1.0) (pid_there g h.0)
-instr_complete (GetX d g i) rest h = tested_complete {A = ℕ × ℕ × ℕ} read_triple three_form AreThree reads_triple (λ x. is_pid x.1) (λ x. GetX x.0 x.1 x.2) (d, g, i) rest (h.1.0, h.1.1.0, h.1.1.1.0) (pid_there g h.0)
-instr_complete (SetX g i s) rest h = tested_complete {A = ℕ × ℕ × ℕ} read_triple three_form AreThree reads_triple (λ x. is_pid x.0) (λ x. SetX x.0 x.1 x.2) (g, i, s) rest (h.1.0, h.1.1.0, h.1.1.1.0) (pid_there g h.0)
-instr_complete (GetA d a i) rest h = tested_complete {A = ℕ × ℕ × ℕ} read_triple three_form AreThree reads_triple (λ _. true) (λ x. GetA x.0 x.1 x.2) (d, a, i) rest (h.1.0, h.1.1.0, h.1.1.1.0) refl
-instr_complete (SetA a i s) rest h = tested_complete {A = ℕ × ℕ × ℕ} read_triple three_form AreThree reads_triple (λ _. true) (λ x. SetA x.0 x.1 x.2) (a, i, s) rest (h.1.0, h.1.1.0, h.1.1.1.0) refl
+instr_complete (Get d g) rest h = tested_complete {A = ℕ × ℕ} read_pair two_form AreTwo reads_pair (λ x. is_pid x.1) (λ x. Get x.0 x.1) (d, g) rest
+    (h.1.0, h.1.1.0) (pid_there g h.0)
+instr_complete (Set g s) rest h = tested_complete {A = ℕ × ℕ} read_pair two_form AreTwo reads_pair (λ x. is_pid x.0) (λ x. Set x.0 x.1) (g, s) rest
+    (h.1.0, h.1.1.0) (pid_there g h.0)
+instr_complete (GetX d g i) rest h = tested_complete {A = ℕ × ℕ × ℕ} read_triple three_form AreThree reads_triple (λ x. is_pid x.1) (λ x. GetX x.0 x.1 x.2)
+    (d, g, i) rest (h.1.0, h.1.1.0, h.1.1.1.0) (pid_there g h.0)
+instr_complete (SetX g i s) rest h = tested_complete {A = ℕ × ℕ × ℕ} read_triple three_form AreThree reads_triple (λ x. is_pid x.0) (λ x. SetX x.0 x.1 x.2)
+    (g, i, s) rest (h.1.0, h.1.1.0, h.1.1.1.0) (pid_there g h.0)
+instr_complete (GetA d a i) rest h = tested_complete {A = ℕ × ℕ × ℕ} read_triple three_form AreThree reads_triple (λ _. true) (λ x. GetA x.0 x.1 x.2) (d, a, i)
+    rest (h.1.0, h.1.1.0, h.1.1.1.0) refl
+instr_complete (SetA a i s) rest h = tested_complete {A = ℕ × ℕ × ℕ} read_triple three_form AreThree reads_triple (λ _. true) (λ x. SetA x.0 x.1 x.2) (a, i, s)
+    rest (h.1.0, h.1.1.0, h.1.1.1.0) refl
 instr_complete (Clear r n a m) rest h = clear_complete r n a m rest h.1.0 h.1.1.0 h.1.1.1.0 h.1.1.1.1.0
 instr_complete Turn rest h = refl
 instr_complete (Call None f n args) rest h = call_complete None f n args rest h.0.0 h.1.1.0 h.1.1.1 h.0.1
@@ -385,10 +432,12 @@ instr_complete (Call (Some d) f n args) rest h =
     ∙ ap (λ r. goes r (λ e us. read_call (Some e) us)) (reads_number.complete d (spelled_all (f ∷ n ∷ length args ∷ args) ++ rest) h.1.0)
     ∙ call_complete (Some d) f n args rest h.0.0 h.1.1.1.0 h.1.1.1.1 h.0.1
 instr_complete (GetChar d) rest h = number_complete d rest (λ e r. Some (GetChar e, r)) h.1.0
-instr_complete (PutChar d s) rest h = tested_complete {A = ℕ × ℕ} read_pair two_form AreTwo reads_pair (λ _. true) (λ x. PutChar x.0 x.1) (d, s) rest (h.1.0, h.1.1.0) refl
+instr_complete (PutChar d s) rest h = tested_complete {A = ℕ × ℕ} read_pair two_form AreTwo reads_pair (λ _. true) (λ x. PutChar x.0 x.1) (d, s) rest
+    (h.1.0, h.1.1.0) refl
 instr_complete (Bin o d a b) rest h =
     ap (λ k. with_some k (λ c. read_operands c (three_form (d, a, b) ++ rest))) (opcode_of_bin o)
-    ∙ tested_complete {A = ℕ × ℕ × ℕ} read_triple three_form AreThree reads_triple (λ _. true) (λ x. Bin o x.0 x.1 x.2) (d, a, b) rest (h.1.0, h.1.1.0, h.1.1.1.0) refl
+    ∙ tested_complete {A = ℕ × ℕ × ℕ} read_triple three_form AreThree reads_triple (λ _. true) (λ x. Bin o x.0 x.1 x.2) (d, a, b) rest
+    (h.1.0, h.1.1.0, h.1.1.1.0) refl
 
 pub reads_instr : Reads read_instr instr_form Fits
 reads_instr = record { complete = λ i rest h. instr_complete i rest h; sound = λ bs i rest h. instr_sound bs i rest h }
@@ -403,20 +452,32 @@ record EndOperands (k : EndCode) (bs : List ℕ) (e : End) (rest : List ℕ) : T
   split : bs ≡ spelled_all (end_operands e) ++ rest
   fits : EndFits e
 
-end_tested : {A : Type 0} (p : List ℕ → Reply A) (form : A → List ℕ) (ok : A → Type 0) (reads : Reads p form ok) (f : A → End) (k : EndCode) → ((x : A) → end_opcode (f x) ≡ end_byte_of k) → ((x : A) → form x ≡ spelled_all (end_operands (f x))) → ((x : A) → ok x → EndFits (f x)) → (bs : List ℕ) (e : End) (rest : List ℕ) → goes (p bs) (λ x r. Some (f x, r)) ≡ Some (e, rest) → EndOperands k bs e rest
+end_tested : {A : Type 0} (p : List ℕ → Reply A) (form : A → List ℕ) (ok : A → Type 0) (reads : Reads p form ok) (f : A → End) (k : EndCode)
+    → ((x : A) → end_opcode (f x) ≡ end_byte_of k) → ((x : A) → form x ≡ spelled_all (end_operands (f x))) → ((x : A) → ok x → EndFits (f x))
+    → (bs : List ℕ) (e : End) (rest : List ℕ) → goes (p bs) (λ x r. Some (f x, r)) ≡ Some (e, rest) → EndOperands k bs e rest
 end_tested p form ok reads f k byte formed fitting bs e rest h =
     let t = tested_sound p form ok reads (λ _. true) f bs e rest h in
-    subst (λ j. EndOperands k bs j rest) t.made (record { byte = byte t.value; split = t.split ∙ ap (λ l. l ++ rest) (formed t.value); fits = fitting t.value t.fits })
+    subst (λ j. EndOperands k bs j rest) t.made (record {
+      byte = byte t.value;
+      split = t.split ∙ ap (λ l. l ++ rest) (formed t.value);
+      fits = fitting t.value
+          t.fits;
+    })
 
 end_operands_sound : (k : EndCode) (bs : List ℕ) (e : End) (rest : List ℕ) → read_end_operands k bs ≡ Some (e, rest) → EndOperands k bs e rest
-end_operands_sound end_code.Jump bs e rest h = end_tested read_number spelled (λ n. n < 2 ^ 32) reads_number (λ t. Jump t) end_code.Jump (λ x. refl) (λ x. sym (append-nil (spelled x))) (λ x w. (w, tt)) bs e rest h
-end_operands_sound end_code.Branch bs e rest h = end_tested {A = ℕ × ℕ × ℕ} read_triple three_form AreThree reads_triple (λ x. Branch x.0 x.1 x.2) end_code.Branch (λ x. refl) (λ x. refl) (λ x w. (w.0, (w.1, (w.2, tt)))) bs e rest h
-end_operands_sound end_code.Loop bs e rest h = end_tested read_number spelled (λ n. n < 2 ^ 32) reads_number (λ t. Loop t) end_code.Loop (λ x. refl) (λ x. sym (append-nil (spelled x))) (λ x w. (w, tt)) bs e rest h
+end_operands_sound end_code.Jump bs e rest h = end_tested read_number spelled (λ n. n < 2 ^ 32) reads_number (λ t. Jump t) end_code.Jump (λ x. refl)
+    (λ x. sym (append-nil (spelled x))) (λ x w. (w, tt)) bs e rest h
+end_operands_sound end_code.Branch bs e rest h = end_tested {A = ℕ × ℕ × ℕ} read_triple three_form AreThree reads_triple (λ x. Branch x.0 x.1 x.2)
+    end_code.Branch (λ x. refl) (λ x. refl) (λ x w. (w.0, (w.1, (w.2, tt)))) bs e rest h
+end_operands_sound end_code.Loop bs e rest h = end_tested read_number spelled (λ n. n < 2 ^ 32) reads_number (λ t. Loop t) end_code.Loop (λ x. refl)
+    (λ x. sym (append-nil (spelled x))) (λ x w. (w, tt)) bs e rest h
 end_operands_sound end_code.ReturnVoid bs e rest h =
     let same = same_reply (Return None) e bs rest h in
     subst (λ j. EndOperands end_code.ReturnVoid bs j rest) same.0 (record { byte = refl; split = same.1; fits = tt })
-end_operands_sound end_code.ReturnValue bs e rest h = end_tested read_number spelled (λ n. n < 2 ^ 32) reads_number (λ x. Return (Some x)) end_code.ReturnValue (λ x. refl) (λ x. sym (append-nil (spelled x))) (λ x w. (w, tt)) bs e rest h
-end_operands_sound end_code.Exit bs e rest h = end_tested read_number spelled (λ n. n < 2 ^ 32) reads_number (λ x. Exit x) end_code.Exit (λ x. refl) (λ x. sym (append-nil (spelled x))) (λ x w. (w, tt)) bs e rest h
+end_operands_sound end_code.ReturnValue bs e rest h = end_tested read_number spelled (λ n. n < 2 ^ 32) reads_number (λ x. Return (Some x)) end_code.ReturnValue
+    (λ x. refl) (λ x. sym (append-nil (spelled x))) (λ x w. (w, tt)) bs e rest h
+end_operands_sound end_code.Exit bs e rest h = end_tested read_number spelled (λ n. n < 2 ^ 32) reads_number (λ x. Exit x) end_code.Exit (λ x. refl)
+    (λ x. sym (append-nil (spelled x))) (λ x w. (w, tt)) bs e rest h
 
 end_sound : (bs : List ℕ) (e : End) (rest : List ℕ) → read_end bs ≡ Some (e, rest) → (bs ≡ end_form e ++ rest) × EndFits e
 end_sound [] e rest h = absurd (cc)
@@ -427,7 +488,8 @@ end_sound (b ∷ bs) e rest h =
 
 end_complete : (e : End) (rest : List ℕ) → EndFits e → read_end (end_form e ++ rest) ≡ Some (e, rest)
 end_complete (Jump t) rest h = number_complete t rest (λ u r. Some (Jump u, r)) h.0
-end_complete (Branch r t u) rest h = tested_complete {A = ℕ × ℕ × ℕ} read_triple three_form AreThree reads_triple (λ _. true) (λ x. Branch x.0 x.1 x.2) (r, t, u) rest (h.0, h.1.0, h.1.1.0) refl
+end_complete (Branch r t u) rest h = tested_complete {A = ℕ × ℕ × ℕ} read_triple three_form AreThree reads_triple (λ _. true) (λ x. Branch x.0 x.1 x.2)
+    (r, t, u) rest (h.0, h.1.0, h.1.1.0) refl
 end_complete (Loop t) rest h = number_complete t rest (λ u r. Some (Loop u, r)) h.0
 end_complete (Return None) rest h = refl
 end_complete (Return (Some x)) rest h = number_complete x rest (λ u r. Some (Return (Some u), r)) h.0
@@ -464,6 +526,7 @@ reads_block = record {
       let made : Block = record { instrs = a.0; end = e.0 } in
       let same = same_reply made b e.1 rest e.3 in
       let split : bs ≡ block_form made ++ rest =
-      left.0 ∙ ap (λ l. counted instr_form a.0 ++ l) (right.0 ∙ ap (λ l. end_form e.0 ++ l) same.1) ∙ sym (append_assoc (counted instr_form a.0) (end_form e.0) rest) in
+      left.0 ∙ ap (λ l. counted instr_form a.0 ++ l) (right.0 ∙ ap (λ l. end_form e.0 ++ l) same.1) ∙ sym
+      (append_assoc (counted instr_form a.0) (end_form e.0) rest) in
       subst (λ y. (bs ≡ block_form y ++ rest) × BlockFits y) same.0 (split, (left.1, right.1));
 }

@@ -1,5 +1,6 @@
 -- Lists of items, one after another, and what a reader and a form owe each other.
-use Rattle.std.proofs.Common.{◌≡◌, ℕ, zero, suc, ◌<◌, ◌≤◌, ◌^◌, Bool, true, false, List, [], ◌∷◌, ◌++◌, length, Some, None, refl, sym, ◌∙◌, ap, subst, arith, append-nil, append_assoc}
+use Rattle.std.proofs.Common.{◌≡◌, ℕ, zero, suc, ◌<◌, ◌≤◌, ◌^◌, Bool, true, false, List, [], ◌∷◌, ◌++◌, length, Some, None, refl, sym, ◌∙◌, ap, subst}
+use Rattle.std.proofs.Common.{arith, append-nil, append_assoc}
 use Rattle.std.specs.Prelude.{nat_le, if◌then◌else◌}
 use Rattle.std.specs.List.{AllByRecursion}
 use Rattle.std.proofs.lemmas.Bool.{le-leb, leb-true}
@@ -19,7 +20,8 @@ rest_or (Some x) d = x.1
 pub same_reply : {A : Type 0} (x y : A) (us vs : List ℕ) → ◌≡◌ {A = Reply A} (Some (x, us)) (Some (y, vs)) → (x ≡ y) × (us ≡ vs)
 same_reply x y us vs h = (ap (λ r. first_or r x) h, ap (λ r. rest_or r us) h)
 
-pub goes_back : {A B : Type 0} (reply : Reply A) (go : A → List ℕ → Reply B) (z : B × List ℕ) → goes reply go ≡ Some z → (x : A) × (rest : List ℕ) × (reply ≡ Some (x, rest)) × (go x rest ≡ Some z)
+pub goes_back : {A B : Type 0} (reply : Reply A) (go : A → List ℕ → Reply B) (z : B × List ℕ) → goes reply go ≡ Some z
+    → (x : A) × (rest : List ℕ) × (reply ≡ Some (x, rest)) × (go x rest ≡ Some z)
 goes_back None go z h = absurd (cc)
 goes_back (Some x) go z h = (x.0, x.1, refl, h)
 
@@ -80,7 +82,8 @@ module _ {A : Type 0} (p : List ℕ → Reply A) (form : A → List ℕ) (ok : A
         let first = sound bs a.0 a.1 a.2 in
         let b = kept_back (nat_le a.0 most) (read_list p a.0 a.1) (xs, rest) a.3 in
         let others = list_sound a.0 a.1 xs rest b.1 in (
-          first.0 ∙ ap (λ l. spelled a.0 ++ l) others.split ∙ ap (λ n. spelled n ++ (forms form xs ++ rest)) (sym others.count) ∙ sym (append_assoc (spelled (length xs)) (forms form xs) rest),
+          first.0 ∙ ap (λ l. spelled a.0 ++ l) others.split ∙ ap (λ n. spelled n ++ (forms form xs ++ rest)) (sym others.count) ∙ sym
+              (append_assoc (spelled (length xs)) (forms form xs) rest),
           (others.all, omega (arith, others.count, leb-true a.0 most b.0)),
         );
   }
@@ -98,7 +101,8 @@ nothing_yet A p count bs xs e = record { reading = from (read_list p count bs) �
     from None = refl
     from (Some x) = refl
 
-pub one_more : (A : Type 0) (p : List ℕ → Reply A) (count left less : ℕ) (bs rest behind : List ℕ) (xs new : List A) (x : A) → SoFar p count left bs rest xs → left ≡ suc less → p rest ≡ Some (x, behind) → new ≡ xs ++ x ∷ [] → SoFar p count less bs behind new
+pub one_more : (A : Type 0) (p : List ℕ → Reply A) (count left less : ℕ) (bs rest behind : List ℕ) (xs new : List A) (x : A) → SoFar p count left bs rest xs
+    → left ≡ suc less → p rest ≡ Some (x, behind) → new ≡ xs ++ x ∷ [] → SoFar p count less bs behind new
 one_more A p count left less bs rest behind xs new x h is read grown = record {
   reading = h.reading
       ∙ ap (λ n. goes (read_list p n rest) (λ ys us. Some (xs ++ ys, us))) is
@@ -110,20 +114,23 @@ one_more A p count left less bs rest behind xs new x h is read grown = record {
     from None = refl
     from (Some z) = ap (λ l. Some (l, z.1)) (sym (append_assoc xs (x ∷ []) z.0) ∙ ap (λ l. l ++ z.0) (sym grown))
 
-pub missing : {A : Type 0} (p : List ℕ → Reply A) (count left less : ℕ) (bs rest : List ℕ) (xs : List A) → SoFar p count left bs rest xs → left ≡ suc less → p rest ≡ None → read_list p count bs ≡ None
+pub missing : {A : Type 0} (p : List ℕ → Reply A) (count left less : ℕ) (bs rest : List ℕ) (xs : List A) → SoFar p count left bs rest xs → left ≡ suc less
+    → p rest ≡ None → read_list p count bs ≡ None
 missing p count left less bs rest xs h is read =
     h.reading
     ∙ ap (λ n. goes (read_list p n rest) (λ ys us. Some (xs ++ ys, us))) is
     ∙ ap (λ r. goes (goes r (λ y us. goes (read_list p less us) (λ ys vs. Some (y ∷ ys, vs)))) (λ ys us. Some (xs ++ ys, us))) read
 
-pub all_read : {A : Type 0} (p : List ℕ → Reply A) (count left : ℕ) (bs rest : List ℕ) (xs : List A) → SoFar p count left bs rest xs → left ≡ 0 → read_list p count bs ≡ Some (xs, rest)
+pub all_read : {A : Type 0} (p : List ℕ → Reply A) (count left : ℕ) (bs rest : List ℕ) (xs : List A) → SoFar p count left bs rest xs → left ≡ 0
+    → read_list p count bs ≡ Some (xs, rest)
 all_read p count left bs rest xs h is =
     h.reading
     ∙ ap (λ n. goes (read_list p n rest) (λ ys us. Some (xs ++ ys, us))) is
     ∙ ap (λ l. Some (l, rest)) (append-nil xs)
 
 -- a list within its bound
-pub within : {A : Type 0} (p : List ℕ → Reply A) (most count : ℕ) (bs : List ℕ) (r : Reply (List A)) → count ≤ most → read_list p count bs ≡ r → list_up_to p most count bs ≡ r
+pub within : {A : Type 0} (p : List ℕ → Reply A) (most count : ℕ) (bs : List ℕ) (r : Reply (List A)) → count ≤ most → read_list p count bs ≡ r
+    → list_up_to p most count bs ≡ r
 within p most count bs r le h = ap (λ b. if b then read_list p count bs else None) (le-leb count most le) ∙ h
 
 pub list_count : {A : Type 0} (p : List ℕ → Reply A) (n : ℕ) (bs : List ℕ) (xs : List A) (rest : List ℕ) → read_list p n bs ≡ Some (xs, rest) → length xs ≡ n
@@ -134,7 +141,8 @@ list_count p (suc n) bs xs rest h =
     let same = same_reply (a.0 ∷ b.0) xs b.1 rest b.3 in
     ap length (sym same.0) ∙ ap suc (list_count p n a.1 b.0 b.1 b.2)
 
-pub few : {A : Type 0} (p : List ℕ → Reply A) (most n : ℕ) (bs : List ℕ) (xs : List A) (rest : List ℕ) → list_up_to p most n bs ≡ Some (xs, rest) → length xs ≤ most
+pub few : {A : Type 0} (p : List ℕ → Reply A) (most n : ℕ) (bs : List ℕ) (xs : List A) (rest : List ℕ) → list_up_to p most n bs ≡ Some (xs, rest)
+    → length xs ≤ most
 few p most n bs xs rest h =
     let b = kept_back (nat_le n most) (read_list p n bs) (xs, rest) h in
     omega (arith, list_count p n bs xs rest b.1, leb-true n most b.0)

@@ -1,7 +1,9 @@
 -- Reading bytes from their front.
-use Rattle.std.specs.Prelude.{ℕ, zero, suc, ◌+◌, ◌-◌, ◌*◌, ◌^◌, Bool, true, false, ◌==◌, ◌&&◌, List, [], ◌∷◌, Option, Some, None, nat_lt, nat_le, if◌then◌else◌, length, sum}
+use Rattle.std.specs.Prelude.{ℕ, zero, suc, ◌+◌, ◌-◌, ◌*◌, ◌^◌, Bool, true, false, ◌==◌, ◌&&◌, List, [], ◌∷◌, Option, Some, None, nat_lt, nat_le}
+use Rattle.std.specs.Prelude.{if◌then◌else◌, length, sum}
 use Rattle.hlo_num.specs.declared.word.Op.{Op}
-use Rattle.hlo_num.specs.declared.word.Op.TheVariants.{AddS, AddU, SubS, SubU, MulS, MulU, DivS, DivU, RemS, RemU, And, Or, Xor, Shl, ShrS, ShrU, Eq, Ne, LtS, LtU, LeS, LeU}
+use Rattle.hlo_num.specs.declared.word.Op.TheVariants.{AddS, AddU, SubS, SubU, MulS, MulU, DivS, DivU, RemS, RemU, And, Or, Xor, Shl, ShrS, ShrU, Eq}
+use Rattle.hlo_num.specs.declared.word.Op.TheVariants.{Ne, LtS, LtU, LeS, LeU}
 use Rattle.hlo_num.specs.declared.word.Ty.{Ty}
 use Rattle.hlo_num.specs.declared.word.Ty.TheVariants.{Char, UChar, Short, UShort}
 use Rattle.il_core.specs.Limits.{max_arrays, max_elements, max_parameters, max_pids, max_registers, max_size}
@@ -99,15 +101,16 @@ operators = AddS ∷ AddU ∷ SubS ∷ SubU ∷ MulS ∷ MulU ∷ DivS ∷ DivU 
 abbrev pub operator_at : ℕ → Option Op
 operator_at n = first_of_number place_of n operators
 
-abbrev pub plain_codes : List Opcode
-plain_codes = code.Const ∷ code.Move ∷ code.Conv ∷ code.Get ∷ code.Set ∷ code.GetX ∷ code.SetX ∷ code.GetA ∷ code.SetA ∷ code.Clear ∷ code.Turn ∷ code.CallVoid ∷ code.CallValue ∷ code.GetChar ∷ code.PutChar ∷ []
+abbrev pub fixed_codes : List Opcode
+fixed_codes = code.Const ∷ code.Move ∷ code.Conv ∷ code.Get ∷ code.Set ∷ code.GetX ∷ code.SetX ∷ code.GetA ∷ code.SetA ∷ code.Clear ∷ code.Turn ∷ code.CallVoid
+    ∷ code.CallValue ∷ code.GetChar ∷ code.PutChar ∷ []
 
 abbrev pub bin_code : Option Op → Option Opcode
 bin_code None = None
 bin_code (Some o) = Some (code.Bin o)
 
 abbrev pub opcode_at : ℕ → Option Opcode
-opcode_at b = if nat_lt b 16 then first_of_number byte_of b plain_codes else bin_code (operator_at (b - 16))
+opcode_at b = if nat_lt b 16 then first_of_number byte_of b fixed_codes else bin_code (operator_at (b - 16))
 
 abbrev pub end_codes : List EndCode
 end_codes = end_code.Jump ∷ end_code.Branch ∷ end_code.Loop ∷ end_code.ReturnVoid ∷ end_code.ReturnValue ∷ end_code.Exit ∷ []
@@ -185,7 +188,8 @@ flag_at n = if n == 0 then Some false else (if n == 1 then Some true else None)
 
 -- the limits of the language that a routine's own numbers keep
 abbrev pub is_within : RoutineParts → Bool
-is_within r = (is_pid r.pid && nat_le r.params max_parameters) && (nat_le r.regs max_registers && (nat_le (sum r.arrays) max_elements && nat_le (size r) max_size))
+is_within r = (is_pid r.pid && nat_le r.params max_parameters) &&
+    (nat_le r.regs max_registers && (nat_le (sum r.arrays) max_elements && nat_le (size r) max_size))
 
 abbrev pub read_lists : ℕ × ℕ × ℕ → ℕ × ℕ → Bool → List ℕ → Reply RoutineParts
 read_lists x y value bs =

@@ -1,5 +1,6 @@
 -- A whole routine is read from its compact form, and from nothing else.
-use Rattle.std.proofs.Common.{◌≡◌, ℕ, ◌+◌, ◌<◌, ◌≤◌, ◌^◌, Bool, true, false, List, [], ◌∷◌, ◌++◌, length, Some, None, refl, sym, ◌∙◌, ap, subst, arith, append-nil, append_assoc}
+use Rattle.std.proofs.Common.{◌≡◌, ℕ, ◌+◌, ◌<◌, ◌≤◌, ◌^◌, Bool, true, false, List, [], ◌∷◌, ◌++◌, length, Some, None, refl, sym, ◌∙◌, ap, subst, arith}
+use Rattle.std.proofs.Common.{append-nil, append_assoc}
 use Rattle.std.specs.Prelude.{◌==◌, ◌&&◌, nat_le, sum, if◌then◌else◌}
 use Rattle.std.specs.List.{AllByRecursion}
 use Rattle.std.proofs.lemmas.Bool.{lt-ltb, ltb-true, le-leb, leb-true, eqb-true}
@@ -12,7 +13,8 @@ use Rattle.il_core.specs.Routine.{RoutineParts}
 use Rattle.il_core.specs.Size.{block_size, blocks_size, size}
 use Rattle.compact_form.specs.Numbers.{spelled, spelled_all}
 use Rattle.compact_form.specs.Compact.{counted, block_form, flag, compact, IsRoutine}
-use Rattle.compact_form.specs.Reading.{Reply, goes, read_number, read_pair, read_triple, read_counted, with_some, kept, is_pid, read_block, flag_at, is_within, read_lists, read_routine}
+use Rattle.compact_form.specs.Reading.{Reply, goes, read_number, read_pair, read_triple, read_counted, with_some, kept, is_pid, read_block, flag_at}
+use Rattle.compact_form.specs.Reading.{is_within, read_lists, read_routine}
 use Rattle.compact_form.specs.Lists.{same_reply, goes_back, kept_back, Reads, reads_number, reads_counted}
 use Rattle.compact_form.specs.Forms.{two_form, three_form, reads_pair, reads_triple, with_back, Fits, BlockFits, reads_block}
 
@@ -22,7 +24,8 @@ instrs_fit : (is : List Instr) → AllByRecursion IsInstr is → AllByRecursion 
 instrs_fit [] h g = tt
 instrs_fit (i ∷ is) h g = ((h.0, g.0), instrs_fit is h.1 g.1)
 
-pub blocks_fit : (bs : List Block) (n : ℕ) → blocks_size bs ≤ n → n ≤ max_size → AllByRecursion IsBlock bs → AllByRecursion IsBlockOfWords bs → AllByRecursion BlockFits bs
+pub blocks_fit : (bs : List Block) (n : ℕ) → blocks_size bs ≤ n → n ≤ max_size → AllByRecursion IsBlock bs → AllByRecursion IsBlockOfWords bs
+    → AllByRecursion BlockFits bs
 blocks_fit [] n le small h g = tt
 blocks_fit (b ∷ bs) n le small h g =
     let sizes : blocks_size (b ∷ bs) ≡ (length b.instrs + 1) + blocks_size bs = sum_by-cons block_size b bs in
@@ -73,7 +76,8 @@ within_true r h =
 
 within_limits : (r : RoutineParts) → is_within r ≡ true → length r.arrays ≤ max_arrays → AllByRecursion IsBlock r.blocks → IsWithinLimits r
 within_limits r h few blocks =
-    let a = both_back (is_pid r.pid && nat_le r.params max_parameters) (nat_le r.regs max_registers && (nat_le (sum r.arrays) max_elements && nat_le (size r) max_size)) h in
+    let a = both_back (is_pid r.pid && nat_le r.params max_parameters)
+    (nat_le r.regs max_registers && (nat_le (sum r.arrays) max_elements && nat_le (size r) max_size)) h in
     let b = both_back (is_pid r.pid) (nat_le r.params max_parameters) a.0 in
     let c = both_back (nat_le r.regs max_registers) (nat_le (sum r.arrays) max_elements && nat_le (size r) max_size) a.1 in
     let d = both_back (nat_le (sum r.arrays) max_elements) (nat_le (size r) max_size) c.1 in
@@ -126,10 +130,12 @@ reads_arrays = reads_counted read_number spelled (λ n. n < 2 ^ 32) reads_number
 reads_blocks : Reads (read_counted read_block max_size) (counted block_form) (λ bs. AllByRecursion BlockFits bs × (length bs ≤ max_size))
 reads_blocks = reads_counted read_block block_form BlockFits reads_block max_size (omega arith)
 
-head_row : (a b c d e : ℕ) (tail rest : List ℕ) → three_form (a, b, c) ++ (two_form (d, e) ++ (tail ++ rest)) ≡ (spelled_all (a ∷ b ∷ c ∷ d ∷ e ∷ []) ++ tail) ++ rest
+head_row : (a b c d e : ℕ) (tail rest : List ℕ)
+    → three_form (a, b, c) ++ (two_form (d, e) ++ (tail ++ rest)) ≡ (spelled_all (a ∷ b ∷ c ∷ d ∷ e ∷ []) ++ tail) ++ rest
 head_row a b c d e tail rest = simp append_assoc
 
-lists_complete : (r : RoutineParts) (rest : List ℕ) → IsRoutine r → read_lists (r.pid, r.params, flag r.value) (r.regs, r.entry) r.value ((counted spelled r.arrays ++ counted block_form r.blocks) ++ rest) ≡ Some (r, rest)
+lists_complete : (r : RoutineParts) (rest : List ℕ) → IsRoutine r
+    → read_lists (r.pid, r.params, flag r.value) (r.regs, r.entry) r.value ((counted spelled r.arrays ++ counted block_form r.blocks) ++ rest) ≡ Some (r, rest)
 lists_complete r rest h =
     let x : ℕ × ℕ × ℕ = (r.pid, r.params, flag r.value) in
     let y : ℕ × ℕ = (r.regs, r.entry) in
@@ -138,7 +144,8 @@ lists_complete r rest h =
     let fit = blocks_fit r.blocks (size r) (omega arith) l.size l.instrs w.blocks in
     let count = few_blocks r.blocks in
     ap (λ bs. read_lists x y r.value bs) (append_assoc (counted spelled r.arrays) (counted block_form r.blocks) rest)
-    ∙ ap (λ z. goes z (arrays_go x y r.value)) (reads_arrays.complete r.arrays (counted block_form r.blocks ++ rest) (summed_words r.arrays max_elements l.elements (omega arith), l.arrays))
+    ∙ ap (λ z. goes z (arrays_go x y r.value)) (reads_arrays.complete r.arrays (counted block_form r.blocks ++ rest)
+    (summed_words r.arrays max_elements l.elements (omega arith), l.arrays))
     ∙ ap (λ z. goes z (blocks_go x y r.value r.arrays)) (reads_blocks.complete r.blocks rest (fit, omega arith))
     ∙ ap (λ b. kept b r rest) (within_true r l)
 
@@ -170,7 +177,8 @@ routine_sound bs r rest h =
     let four = reads_blocks.sound c.1 d.0 d.1 d.2 in
     let inner = blocks_back d.0 four.1.0 in
     let tail = counted spelled c.0 ++ counted block_form d.0 in
-    let lists : b.1 ≡ tail ++ rest = three.0 ∙ ap (λ l. counted spelled c.0 ++ l) (four.0 ∙ ap (λ l. counted block_form d.0 ++ l) same.1) ∙ sym (append_assoc (counted spelled c.0) (counted block_form d.0) rest) in
+    let lists : b.1 ≡ tail ++ rest = three.0 ∙ ap (λ l. counted spelled c.0 ++ l) (four.0 ∙ ap (λ l. counted block_form d.0 ++ l) same.1) ∙ sym
+    (append_assoc (counted spelled c.0) (counted block_form d.0) rest) in
     let split : bs ≡ compact parts ++ rest =
     one.0 ∙ ap (λ l. three_form a.0 ++ l) (two.0 ∙ ap (λ l. two_form b.0 ++ l) lists)
     ∙ head_row a.0.0 a.0.1 a.0.2 b.0.0 b.0.1 tail rest
@@ -206,7 +214,8 @@ whole_sound bs r rest h none =
 whole_read : (bs : List ℕ) (q : RoutineParts) → IsRoutine q → compact q ≡ bs → read_routine bs ≡ Some (q, [])
 whole_read bs q h e = ap read_routine (sym e ∙ sym (append-nil (compact q))) ∙ routine_complete q [] h
 
-pub more_behind : (bs : List ℕ) (r : RoutineParts) (rest : List ℕ) → read_routine bs ≡ Some (r, rest) → (length rest ≡ 0 → ⊥) → (q : RoutineParts) → IsRoutine q → compact q ≡ bs → ⊥
+pub more_behind : (bs : List ℕ) (r : RoutineParts) (rest : List ℕ) → read_routine bs ≡ Some (r, rest) → (length rest ≡ 0 → ⊥) → (q : RoutineParts) → IsRoutine q
+    → compact q ≡ bs → ⊥
 more_behind bs r rest h some q g e = some (ap length (same_reply r q rest [] (sym h ∙ whole_read bs q g e)).1)
 
 pub unreadable : (bs : List ℕ) → read_routine bs ≡ None → (q : RoutineParts) → IsRoutine q → compact q ≡ bs → ⊥

@@ -1,5 +1,6 @@
 -- Numbers: their spellings, and reading them from the front.
-use Rattle.std.proofs.Common.{◌≡◌, ◌≢◌, ℕ, zero, suc, ◌+◌, ◌-◌, ◌*◌, ◌/◌, ◌%◌, ◌^◌, ◌<◌, ◌≤◌, Bool, true, false, List, [], ◌∷◌, ◌++◌, length, take, drop, Some, None, refl, sym, ◌∙◌, ap, subst, arith, length-append, take-append-drop}
+use Rattle.std.proofs.Common.{◌≡◌, ◌≢◌, ℕ, zero, suc, ◌+◌, ◌-◌, ◌*◌, ◌/◌, ◌%◌, ◌^◌, ◌<◌, ◌≤◌, Bool, true, false, List, [], ◌∷◌, ◌++◌, length, take}
+use Rattle.std.proofs.Common.{drop, Some, None, refl, sym, ◌∙◌, ap, subst, arith, length-append, take-append-drop}
 use Rattle.std.specs.Prelude.{◌==◌, nat_lt, if◌then◌else◌}
 use Rattle.std.proofs.Math.Nat.{pow-suc}
 use Rattle.std.proofs.lemmas.Bool.{ne_eqb, eqb-false, lt-ltb, ltb-true, ltb-false, le-ltb}
@@ -44,7 +45,8 @@ one_spelling n (b ∷ c ∷ us) (d ∷ f ∷ vs) (low, high, rest, some, e, h) (
 small_read : (n : ℕ) (rest : List ℕ) (w : Reply ℕ) → n < 128 → (if nat_lt n 128 then Some (n, rest) else w) ≡ Some (n, rest)
 small_read n rest w lt = ap (λ b. if b then Some (n, rest) else w) (lt-ltb n 128 lt)
 
-large_read : (x r : ℕ) (rest : List ℕ) (v : Reply ℕ) → 128 ≤ x → x < 256 → r ≢ 0 → (if nat_lt x 128 then v else (if nat_lt x 256 then number_more x (Some (r, rest)) else None)) ≡ Some ((x - 128) + 128 * r, rest)
+large_read : (x r : ℕ) (rest : List ℕ) (v : Reply ℕ) → 128 ≤ x → x < 256 → r ≢ 0
+    → (if nat_lt x 128 then v else (if nat_lt x 256 then number_more x (Some (r, rest)) else None)) ≡ Some ((x - 128) + 128 * r, rest)
 large_read x r rest v le lt some = rw (le-ltb x 128 le, lt-ltb x 256 lt, ne_eqb r 0 some) refl
 
 pub complete_in : (k n : ℕ) (rest : List ℕ) → n < 128 ^ suc k → number_in k (spelled_in k n ++ rest) ≡ Some (n, rest)
@@ -58,7 +60,8 @@ complete_in (suc k) n rest lt =
     let x = n % 128 + 128 in
     let some : n / 128 ≢ 0 = λ e. omega (arith, e) in
     let whole : (x - 128) + 128 * (n / 128) ≡ n = omega arith in
-    ap (λ r. if nat_lt x 128 then Some (x, spelled_in k (n / 128) ++ rest) else (if nat_lt x 256 then number_more x r else None)) (complete_in k (n / 128) rest (omega arith))
+    ap (λ r. if nat_lt x 128 then Some (x, spelled_in k (n / 128) ++ rest) else (if nat_lt x 256 then number_more x r else None))
+    (complete_in k (n / 128) rest (omega arith))
     ∙ large_read x (n / 128) rest (Some (x, spelled_in k (n / 128) ++ rest)) (omega arith) (omega arith) some
     ∙ ap (λ m. Some (m, rest)) whole)
 
@@ -87,12 +90,14 @@ rest_or (Some x) d = x.1
 pub same_reply : (m n : ℕ) (us vs : List ℕ) → ◌≡◌ {A = Reply ℕ} (Some (m, us)) (Some (n, vs)) → (m ≡ n) × (us ≡ vs)
 same_reply m n us vs h = (ap (λ r. first_or r m) h, ap (λ r. rest_or r us) h)
 
-small_front : (k b : ℕ) (bs : List ℕ) (n : ℕ) (rest : List ℕ) → b < 128 → 128 ≤ 128 ^ suc k → ◌≡◌ {A = Reply ℕ} (Some (b, bs)) (Some (n, rest)) → Front k (b ∷ bs) n rest
+small_front : (k b : ℕ) (bs : List ℕ) (n : ℕ) (rest : List ℕ) → b < 128 → 128 ≤ 128 ^ suc k → ◌≡◌ {A = Reply ℕ} (Some (b, bs)) (Some (n, rest))
+    → Front k (b ∷ bs) n rest
 small_front k b bs n rest lt wide h =
     let same = same_reply b n bs rest h in
     record { us = b ∷ []; split = ap (λ l. b ∷ l) same.1; spelling = (lt, sym same.0); few = omega (arith, same.0) }
 
-more_front : (k b : ℕ) (bs : List ℕ) (n : ℕ) (rest : List ℕ) (r : Reply ℕ) → 128 ≤ b → b < 256 → ((m : ℕ) (us : List ℕ) → r ≡ Some (m, us) → Front k bs m us) → number_more b r ≡ Some (n, rest) → Front (suc k) (b ∷ bs) n rest
+more_front : (k b : ℕ) (bs : List ℕ) (n : ℕ) (rest : List ℕ) (r : Reply ℕ) → 128 ≤ b → b < 256 → ((m : ℕ) (us : List ℕ) → r ≡ Some (m, us) → Front k bs m us)
+    → number_more b r ≡ Some (n, rest) → Front (suc k) (b ∷ bs) n rest
 more_front k b bs n rest None le lt inner h = absurd (cc)
 more_front k b bs n rest (Some x) le lt inner h = at (x.0 == 0) refl h
   where
@@ -129,7 +134,8 @@ front_in (suc k) (b ∷ bs) n rest h = at (λ m us e. front_in k bs m us e) (nat
     wide zero = omega arith
     wide (suc j) = let more : 128 ^ suc (suc j) ≡ 128 ^ suc j * 128 = pow-suc 128 (suc j) in let x = wide j in omega arith
 
-    at : ((m : ℕ) (us : List ℕ) → number_in k bs ≡ Some (m, us) → Front k bs m us) → (t u : Bool) → nat_lt b 128 ≡ t → nat_lt b 256 ≡ u → if◌then◌else◌ {A = Reply ℕ} t (Some (b, bs)) (if u then number_more b (number_in k bs) else None) ≡ Some (n, rest) → Front (suc k) (b ∷ bs) n rest
+    at : ((m : ℕ) (us : List ℕ) → number_in k bs ≡ Some (m, us) → Front k bs m us) → (t u : Bool) → nat_lt b 128 ≡ t → nat_lt b 256 ≡ u
+        → if◌then◌else◌ {A = Reply ℕ} t (Some (b, bs)) (if u then number_more b (number_in k bs) else None) ≡ Some (n, rest) → Front (suc k) (b ∷ bs) n rest
     at inner true u is also g = small_front (suc k) b bs n rest (ltb-true b 128 is) (wide (suc k)) g
     at inner false true is also g = more_front k b bs n rest (number_in k bs) (ltb-false b 128 is) (ltb-true b 256 also) inner g
     at inner false false is also g = absurd (cc)
@@ -138,7 +144,8 @@ pub sound : (bs : List ℕ) (n : ℕ) (rest : List ℕ) → read_number bs ≡ S
 unfolding read_number spelled
 sound bs n rest h = from (number_in 4 bs) refl h
   where
-    at : (m : ℕ) (us : List ℕ) (t : Bool) → number_in 4 bs ≡ Some (m, us) → nat_lt m (2 ^ 32) ≡ t → if◌then◌else◌ {A = Reply ℕ} t (Some (m, us)) None ≡ Some (n, rest) → (bs ≡ spelled n ++ rest) × (n < 2 ^ 32)
+    at : (m : ℕ) (us : List ℕ) (t : Bool) → number_in 4 bs ≡ Some (m, us) → nat_lt m (2 ^ 32) ≡ t
+        → if◌then◌else◌ {A = Reply ℕ} t (Some (m, us)) None ≡ Some (n, rest) → (bs ≡ spelled n ++ rest) × (n < 2 ^ 32)
     at m us true is small g =
         let f = front_in 4 bs m us is in
         let same = same_reply m n us rest g in
@@ -177,7 +184,8 @@ not_taken bs none = from (read_number bs) refl
     from (Some x) is =
         let s = sound bs x.0 x.1 is in
         let us : take (length (spelled x.0)) bs ≡ spelled x.0 = ap (take (length (spelled x.0))) s.0 ∙ front (spelled x.0) x.1 in
-        absurd (none x.0 (length (spelled x.0)) s.1 (omega (arith, ap length s.0, length-append (spelled x.0) x.1)) (omega arith, simp unary_clauses (subst (IsSpelling x.0) (sym us) (is_spelled x.0 s.1))))
+        absurd (none x.0 (length (spelled x.0)) s.1 (omega (arith, ap length s.0, length-append (spelled x.0) x.1))
+        (omega arith, simp unary_clauses (subst (IsSpelling x.0) (sym us) (is_spelled x.0 s.1))))
 
 pub spelled_short : (n : ℕ) → n < 2 ^ 32 → (1 ≤ length (spelled n)) × (length (spelled n) ≤ 5)
 spelled_short n lt = (some (spelled n) (is_spelled n lt), short n (spelled n) lt (is_spelled n lt))

@@ -1,6 +1,6 @@
 //! Opcodes of the compact form.
 ghost use Rattle.std.specs.Prelude.{◌≡◌};
-ghost use Rattle.compact_form.specs.Reading.{byte_of, end_code_at, first_of_number, narrow_at, opcode_at, operator_at, plain_codes};
+ghost use Rattle.compact_form.specs.Reading.{byte_of, end_code_at, first_of_number, narrow_at, opcode_at, operator_at, fixed_codes};
 
 use hlo_num::{Op, Ty};
 
@@ -43,14 +43,14 @@ pub(crate) fn opcode_of(byte: u8) -> Option<Opcode>
     ensures { result ≡ opcode_at byte }
 {
     if byte < 0x10 {
-        plain_opcode(byte)
+        fixed_opcode(byte)
     } else {
         operator_of(byte - 0x10).map(Opcode::Bin)
     }
 }
 
-fn plain_opcode(byte: u8) -> Option<Opcode>
-    ensures { result ≡ first_of_number byte_of byte plain_codes }
+fn fixed_opcode(byte: u8) -> Option<Opcode>
+    ensures { result ≡ first_of_number byte_of byte fixed_codes }
 {
     match byte {
         0x00 => Some(Opcode::Const),

@@ -3,7 +3,8 @@ ghost use Rattle.std.specs.Prelude.{◌≡◌, ◌++◌, ◌<◌, ◌≤◌, ◌
 ghost use Rattle.il_core.specs.declared.instr.Instr.TheVariants.{Call};
 ghost use Rattle.il_core.specs.Limits.{IsInstr, max_parameters};
 ghost use Rattle.il_core.specs.Ranges.{AreWords, end_numbers, numbers_of};
-ghost use Rattle.compact_form.specs.Compact.{end_opcode, end_operands, flag, head_numbers, number_of as narrow_number, opcode, operands, place_of as operator_place};
+ghost use Rattle.compact_form.specs.Compact.{end_opcode, end_operands, flag, head_numbers, number_of as narrow_number, opcode, operands};
+ghost use Rattle.compact_form.specs.Compact.{place_of as operator_place};
 
 use hlo_num::{Op, Ty};
 use il_core::{End, Instr, Routine};
@@ -20,7 +21,7 @@ pub(crate) struct Row<'a> {
 
 impl<'a> Row<'a> {
     /// A row without arguments of a call.
-    fn plain(opcode: u8, numbers: [u32; 4], count: usize) -> Row<'a>
+    fn fixed(opcode: u8, numbers: [u32; 4], count: usize) -> Row<'a>
         ensures opcode { result.opcode ≡ opcode }
         ensures numbers { result.numbers ≡ numbers }
         ensures count { result.count ≡ count }
@@ -44,26 +45,26 @@ impl<'a> Row<'a> {
         ensures words { AreWords (numbers_of instr.now) }
     {
         match instr {
-            Instr::Const(d, w) => Row::plain(0x00, [*d, w.0, 0, 0], 2),
-            Instr::Move(d, s) => Row::plain(0x01, [*d, *s, 0, 0], 2),
-            Instr::Conv(d, ty, s) => Row::plain(0x02, [*d, number_of(*ty), *s, 0], 3),
-            Instr::Get(d, pid) => Row::plain(0x03, [*d, *pid, 0, 0], 2),
-            Instr::Set(pid, s) => Row::plain(0x04, [*pid, *s, 0, 0], 2),
-            Instr::GetX(d, pid, i) => Row::plain(0x05, [*d, *pid, *i, 0], 3),
-            Instr::SetX(pid, i, s) => Row::plain(0x06, [*pid, *i, *s, 0], 3),
-            Instr::GetA(d, a, i) => Row::plain(0x07, [*d, *a, *i, 0], 3),
-            Instr::SetA(a, i, s) => Row::plain(0x08, [*a, *i, *s, 0], 3),
-            Instr::Clear(r, n, a, m) => Row::plain(0x09, [*r, *n, *a, *m], 4),
-            Instr::Turn => Row::plain(0x0a, [0, 0, 0, 0], 0),
+            Instr::Const(d, w) => Row::fixed(0x00, [*d, w.0, 0, 0], 2),
+            Instr::Move(d, s) => Row::fixed(0x01, [*d, *s, 0, 0], 2),
+            Instr::Conv(d, ty, s) => Row::fixed(0x02, [*d, number_of(*ty), *s, 0], 3),
+            Instr::Get(d, pid) => Row::fixed(0x03, [*d, *pid, 0, 0], 2),
+            Instr::Set(pid, s) => Row::fixed(0x04, [*pid, *s, 0, 0], 2),
+            Instr::GetX(d, pid, i) => Row::fixed(0x05, [*d, *pid, *i, 0], 3),
+            Instr::SetX(pid, i, s) => Row::fixed(0x06, [*pid, *i, *s, 0], 3),
+            Instr::GetA(d, a, i) => Row::fixed(0x07, [*d, *a, *i, 0], 3),
+            Instr::SetA(a, i, s) => Row::fixed(0x08, [*a, *i, *s, 0], 3),
+            Instr::Clear(r, n, a, m) => Row::fixed(0x09, [*r, *n, *a, *m], 4),
+            Instr::Turn => Row::fixed(0x0a, [0, 0, 0, 0], 0),
             Instr::Call {
                 dest,
                 callee,
                 count,
                 args,
             } => Row::of_call(*dest, *callee, *count, args.as_slice()),
-            Instr::GetChar(d) => Row::plain(0x0d, [*d, 0, 0, 0], 1),
-            Instr::PutChar(d, s) => Row::plain(0x0e, [*d, *s, 0, 0], 2),
-            Instr::Bin(op, d, a, b) => Row::plain(0x10 + place_of(*op), [*d, *a, *b, 0], 3),
+            Instr::GetChar(d) => Row::fixed(0x0d, [*d, 0, 0, 0], 1),
+            Instr::PutChar(d, s) => Row::fixed(0x0e, [*d, *s, 0, 0], 2),
+            Instr::Bin(op, d, a, b) => Row::fixed(0x10 + place_of(*op), [*d, *a, *b, 0], 3),
         }
     }
 
@@ -98,12 +99,12 @@ impl<'a> Row<'a> {
         ensures words { AreWords (end_numbers end) }
     {
         match end {
-            End::Jump(t) => Row::plain(0x40, [t, 0, 0, 0], 1),
-            End::Branch(r, t, u) => Row::plain(0x41, [r, t, u, 0], 3),
-            End::Loop(t) => Row::plain(0x42, [t, 0, 0, 0], 1),
-            End::Return(None) => Row::plain(0x43, [0, 0, 0, 0], 0),
-            End::Return(Some(r)) => Row::plain(0x44, [r, 0, 0, 0], 1),
-            End::Exit(r) => Row::plain(0x45, [r, 0, 0, 0], 1),
+            End::Jump(t) => Row::fixed(0x40, [t, 0, 0, 0], 1),
+            End::Branch(r, t, u) => Row::fixed(0x41, [r, t, u, 0], 3),
+            End::Loop(t) => Row::fixed(0x42, [t, 0, 0, 0], 1),
+            End::Return(None) => Row::fixed(0x43, [0, 0, 0, 0], 0),
+            End::Return(Some(r)) => Row::fixed(0x44, [r, 0, 0, 0], 1),
+            End::Exit(r) => Row::fixed(0x45, [r, 0, 0, 0], 1),
         }
     }
 }

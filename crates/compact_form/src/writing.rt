@@ -27,7 +27,8 @@ fn put_numbers(out: &mut Vec<u8>, numbers: &[u32]) -> Result<(), AllocError>
 
 fn put_row(out: &mut Vec<u8>, row: &Row<'_>) -> Result<(), AllocError>
     requires { row.now.count ≤ 4 }
-    ensures { OnOk result (out.new.items ≡ out.old.items ++ (row.now.opcode ∷ (flat_map spelled (first row.now.count row.now.numbers) ++ flat_map spelled row.now.args.now))) }
+    ensures { OnOk result (out.new.items ≡ out.old.items ++ (row.now.opcode ∷
+        (flat_map spelled (first row.now.count row.now.numbers) ++ flat_map spelled row.now.args.now))) }
 {
     out.push(row.opcode)?;
     put_numbers(out, &row.numbers[..row.count])?;

@@ -1,5 +1,6 @@
 -- What the binary operators give, on words.
-use Rattle.std.specs.Prelude.{ℕ, ◌+◌, ◌-◌, ◌*◌, ◌/◌, ◌%◌, ◌^◌, ◌&&◌, Bool, true, false, if◌then◌else◌, nat_lt, nat_le, ◌==◌, not, bit_and, bit_or, bit_xor, int_lt, int_le, int_div, int_rem, Result, Ok, Err}
+use Rattle.std.specs.Prelude.{ℕ, ◌+◌, ◌-◌, ◌*◌, ◌/◌, ◌%◌, ◌^◌, ◌&&◌, Bool, true, false, if◌then◌else◌, nat_lt, nat_le, ◌==◌, not, bit_and, bit_or}
+use Rattle.std.specs.Prelude.{bit_xor, int_lt, int_le, int_div, int_rem, Result, Ok, Err}
 use Rattle.std.specs.Int.{int_shr}
 use Rattle.hlo_num.specs.Words.{signed, word_of}
 use Rattle.hlo_num.specs.declared.word.Op.{Op}

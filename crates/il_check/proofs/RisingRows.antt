@@ -53,7 +53,8 @@ split (y ∷ a) x b h = let r = split_from y.pid a x b h in ((r.0, r.1), r.2)
 parts : (rows : List ShapeRow) (m : ℕ) (x : ShapeRow) → m < length rows → x ≡ slice_index_or rows m x → take m rows ++ x ∷ drop (suc m) rows ≡ rows
 parts rows m x lt e = ap (λ l. take m rows ++ l) (ap (λ y. y ∷ drop (suc m) rows) e ∙ sym (drop-cons rows m x lt)) ∙ take-append-drop m rows
 
-split_at : (rows : List ShapeRow) (m : ℕ) (x : ShapeRow) → Rising rows → m < length rows → x ≡ slice_index_or rows m x → Below x.pid (take m rows) × Above x.pid (drop (suc m) rows)
+split_at : (rows : List ShapeRow) (m : ℕ) (x : ShapeRow) → Rising rows → m < length rows → x ≡ slice_index_or rows m x
+    → Below x.pid (take m rows) × Above x.pid (drop (suc m) rows)
 split_at rows m x rising lt e = split (take m rows) x (drop (suc m) rows) (subst Rising (sym (parts rows m x lt e)) rising)
 
 below_one_more : (n : ℕ) (rows : List ShapeRow) (x : ShapeRow) → Below n rows → x.pid < n → Below n (rows ++ x ∷ [])
@@ -63,16 +64,31 @@ below_one_more n (row ∷ rows) x h lt = (h.0, below_one_more n rows x h.1 lt)
 pub at_first : (pid : ℕ) (rows : List ShapeRow) → IsBetween 0 (length rows) pid rows
 at_first pid rows = record { order = omega arith; inside = omega arith; below = tt; above = subst (Above pid) (sym (drop-length rows)) tt }
 
-pub go_up : (low high pid m : ℕ) (rows : List ShapeRow) (x : ShapeRow) → Rising rows → IsBetween low high pid rows → m < high → x ≡ slice_index_or rows m x → x.pid < pid → IsBetween (m + 1) high pid rows
+pub go_up : (low high pid m : ℕ) (rows : List ShapeRow) (x : ShapeRow) → Rising rows → IsBetween low high pid rows → m < high → x ≡ slice_index_or rows m x
+    → x.pid < pid → IsBetween (m + 1) high pid rows
 go_up low high pid m rows x rising h lt e less =
     let inside : m < length rows = omega (arith, h.inside) in
-    let b : Below pid (take m rows ++ x ∷ []) = below_one_more pid (take m rows) x (below_stronger x.pid pid (take m rows) less (split_at rows m x rising inside e).0) less in
-    record { order = omega arith; inside = h.inside; above = h.above; below = rw (add-one, take-suc rows m x inside) (subst (λ y. Below pid (take m rows ++ y ∷ [])) e b) }
+    let b : Below pid (take m rows ++ x ∷ []) = below_one_more pid (take m rows) x
+    (below_stronger x.pid pid (take m rows) less (split_at rows m x rising inside e).0) less in
+    record {
+      order = omega arith;
+      inside = h.inside;
+      above = h.above;
+      below = rw (add-one, take-suc rows m x inside)
+          (subst (λ y. Below pid (take m rows ++ y ∷ [])) e b);
+    }
 
-pub go_down : (low high pid m : ℕ) (rows : List ShapeRow) (x : ShapeRow) → Rising rows → IsBetween low high pid rows → low ≤ m → m < high → x ≡ slice_index_or rows m x → pid < x.pid → IsBetween low m pid rows
+pub go_down : (low high pid m : ℕ) (rows : List ShapeRow) (x : ShapeRow) → Rising rows → IsBetween low high pid rows → low ≤ m → m < high
+    → x ≡ slice_index_or rows m x → pid < x.pid → IsBetween low m pid rows
 go_down low high pid m rows x rising h le lt e more =
     let inside : m < length rows = omega (arith, h.inside) in
-    record { order = le; inside = omega arith; below = h.below; above = rw (drop-cons rows m x inside) (subst (λ y. Above pid (y ∷ drop (suc m) rows)) e (more, above_weaker pid x.pid (drop (suc m) rows) more (split_at rows m x rising inside e).1)) }
+    record {
+      order = le;
+      inside = omega arith;
+      below = h.below;
+      above = rw (drop-cons rows m x inside)
+          (subst (λ y. Above pid (y ∷ drop (suc m) rows)) e (more, above_weaker pid x.pid (drop (suc m) rows) more (split_at rows m x rising inside e).1));
+    }
 
 found_past : (pid : ℕ) (a b : List ShapeRow) → Below pid a → found (λ row. row.pid) pid (a ++ b) ≡ found (λ row. row.pid) pid b
 found_past pid [] b h = refl
@@ -85,12 +101,15 @@ found_none pid (row ∷ rows) h = rw (ne_eqb row.pid pid (λ e. omega (arith, e,
 pub not_there : (low high pid : ℕ) (rows : List ShapeRow) → IsBetween low high pid rows → high ≤ low → found (λ row. row.pid) pid rows ≡ None
 not_there low high pid rows h ends =
     let same : low ≡ high = omega (arith, h.order) in
-    ap (λ l. found (λ row. row.pid) pid l) (sym (take-append-drop low rows)) ∙ found_past pid (take low rows) (drop low rows) h.below ∙ found_none pid (drop low rows) (subst (λ n. Above pid (drop n rows)) (sym same) h.above)
+    ap (λ l. found (λ row. row.pid) pid l) (sym (take-append-drop low rows)) ∙ found_past pid (take low rows) (drop low rows) h.below ∙ found_none pid
+    (drop low rows) (subst (λ n. Above pid (drop n rows)) (sym same) h.above)
 
 found_here : (pid : ℕ) (x : ShapeRow) (b : List ShapeRow) → x.pid ≡ pid → found (λ row. row.pid) pid (x ∷ b) ≡ Some x
 found_here pid x b e = rw (eq-eqb x.pid pid e) refl
 
-pub is_there : (pid m : ℕ) (rows : List ShapeRow) (x : ShapeRow) → Rising rows → m < length rows → x ≡ slice_index_or rows m x → x.pid ≡ pid → found (λ row. row.pid) pid rows ≡ Some x
+pub is_there : (pid m : ℕ) (rows : List ShapeRow) (x : ShapeRow) → Rising rows → m < length rows → x ≡ slice_index_or rows m x → x.pid ≡ pid
+    → found (λ row. row.pid) pid rows ≡ Some x
 is_there pid m rows x rising lt e is =
-    ap (λ l. found (λ row. row.pid) pid l) (sym (parts rows m x lt e)) ∙ found_past pid (take m rows) (x ∷ drop (suc m) rows) (subst (λ n. Below n (take m rows)) is (split_at rows m x rising lt e).0)
+    ap (λ l. found (λ row. row.pid) pid l) (sym (parts rows m x lt e)) ∙ found_past pid (take m rows) (x ∷ drop (suc m) rows)
+    (subst (λ n. Below n (take m rows)) is (split_at rows m x rising lt e).0)
     ∙ found_here pid x (drop (suc m) rows) is

@@ -17,7 +17,8 @@ use Rattle.il_core.specs.Program.{shape_at}
 use Rattle.il_core.specs.Valid.{IsObjectShape, IsRoutineShape, is_wanted, IsRegIfSome, IsValidInstr, IsValidEnd, AreValidBlocks, IsValid}
 use Rattle.il_check.specs.declared.flaw.Flaw.{Flaw}
 use Rattle.il_check.specs.declared.flaw.Flaw.TheVariants.{Params, Register, Array, Object, Callee, Arguments, Result, Target, ReturnKind}
-use Rattle.il_check.specs.Conditions.{first_broken, exist, is_object, is_routine, params_of, gives_value, callee_conditions, object_conditions, named_conditions, registers_exist, instr_conditions, end_conditions, is_later, blocks_conditions, conditions}
+use Rattle.il_check.specs.Conditions.{first_broken, exist, is_object, is_routine, params_of, gives_value, callee_conditions, object_conditions}
+use Rattle.il_check.specs.Conditions.{named_conditions, registers_exist, instr_conditions, end_conditions, is_later, blocks_conditions, conditions}
 use Rattle.il_check.proofs.MetConditions.{front_met, rest_met, both_met, head_met, cons_met, one_met, two_met, one_meets, two_meet}
 
 object_shape : (s : Option Shape) → is_object s ≡ true → IsObjectShape s
@@ -42,12 +43,14 @@ bool_same true false h = absurd cc
 bool_same false true h = absurd cc
 bool_same false false h = refl
 
-routine_shape : (s : Option Shape) (count : ℕ) (wanted : Bool) → is_routine s ≡ true → params_of s ≡ count → gives_value s ≡ wanted → IsRoutineShape s count wanted
+routine_shape : (s : Option Shape) (count : ℕ) (wanted : Bool) → is_routine s ≡ true → params_of s ≡ count → gives_value s ≡ wanted
+    → IsRoutineShape s count wanted
 routine_shape None count wanted h p v = absurd cc
 routine_shape (Some (shape.Object words)) count wanted h p v = absurd cc
 routine_shape (Some (shape.Routine params value)) count wanted h p v = (p, v)
 
-shape_routine : (s : Option Shape) (count : ℕ) (wanted : Bool) → IsRoutineShape s count wanted → (is_routine s ≡ true) × (params_of s ≡ count) × (gives_value s ≡ wanted)
+shape_routine : (s : Option Shape) (count : ℕ) (wanted : Bool) → IsRoutineShape s count wanted
+    → (is_routine s ≡ true) × (params_of s ≡ count) × (gives_value s ≡ wanted)
 shape_routine None count wanted h = absurd h
 shape_routine (Some (shape.Object words)) count wanted h = absurd h
 shape_routine (Some (shape.Routine params value)) count wanted h = (refl, h.0, h.1)
@@ -75,17 +78,20 @@ wanted_some (Some d) = refl
 abbrev Ok : List ShapeRow → ℕ → ℕ → Instr → Type 0
 Ok rows regs arrays i = first_broken (instr_conditions rows regs arrays i) ≡ None
 
-callee_valid : (s : Option Shape) (count : ℕ) (dest : Option ℕ) → first_broken (callee_conditions s count (is_some dest)) ≡ None → IsRoutineShape s count (is_wanted dest)
+callee_valid : (s : Option Shape) (count : ℕ) (dest : Option ℕ) → first_broken (callee_conditions s count (is_some dest)) ≡ None
+    → IsRoutineShape s count (is_wanted dest)
 callee_valid s count dest h =
     let a = head_met (is_routine s) Callee ((nat_eq (params_of s) count, Arguments) ∷ (beq (gives_value s) (is_some dest), Result) ∷ []) h in
     let b = two_met (nat_eq (params_of s) count) (beq (gives_value s) (is_some dest)) Arguments Result a.1 in
     routine_shape s count (is_wanted dest) a.0 (eqb-true (params_of s) count b.0) (same_bool (gives_value s) (is_some dest) b.1 ∙ wanted_some dest)
 
-valid_callee : (s : Option Shape) (count : ℕ) (dest : Option ℕ) → IsRoutineShape s count (is_wanted dest) → first_broken (callee_conditions s count (is_some dest)) ≡ None
+valid_callee : (s : Option Shape) (count : ℕ) (dest : Option ℕ) → IsRoutineShape s count (is_wanted dest)
+    → first_broken (callee_conditions s count (is_some dest)) ≡ None
 valid_callee s count dest h =
     let r = shape_routine s count (is_wanted dest) h in
     cons_met (is_routine s) Callee ((nat_eq (params_of s) count, Arguments) ∷ (beq (gives_value s) (is_some dest), Result) ∷ []) r.0
-    (two_meet (nat_eq (params_of s) count) (beq (gives_value s) (is_some dest)) Arguments Result (eq-eqb (params_of s) count r.1) (bool_same (gives_value s) (is_some dest) (r.2 ∙ sym (wanted_some dest))))
+    (two_meet (nat_eq (params_of s) count) (beq (gives_value s) (is_some dest)) Arguments Result (eq-eqb (params_of s) count r.1)
+    (bool_same (gives_value s) (is_some dest) (r.2 ∙ sym (wanted_some dest))))
 
 -- registers that are named exist
 in_range : (regs : ℕ) (d : Option ℕ) (xs : List ℕ) → (exist regs (option_to_list d) && exist regs xs) ≡ true
@@ -162,13 +168,20 @@ module _ (rows : List ShapeRow) (regs arrays : ℕ) where
   valid_instr (GetChar d) h = meets (GetChar d) (range_in regs (Some d) [] h tt) refl
   valid_instr (PutChar d s) h = meets (PutChar d s) (range_in regs (Some d) (s ∷ []) h.0 (h.1, tt)) refl
 
-instrs_valid : (rows : List ShapeRow) (regs arrays : ℕ) (is : List Instr) → first_broken (flat_map (λ i. instr_conditions rows regs arrays i) is) ≡ None → AllByRecursion (IsValidInstr rows regs arrays) is
+instrs_valid : (rows : List ShapeRow) (regs arrays : ℕ) (is : List Instr) → first_broken (flat_map (λ i. instr_conditions rows regs arrays i) is) ≡ None
+    → AllByRecursion (IsValidInstr rows regs arrays) is
 instrs_valid rows regs arrays [] h = tt
-instrs_valid rows regs arrays (i ∷ is) h = (instr_valid rows regs arrays i (front_met (instr_conditions rows regs arrays i) _ h), instrs_valid rows regs arrays is (rest_met (instr_conditions rows regs arrays i) _ h))
+instrs_valid rows regs arrays (i ∷ is) h = (
+  instr_valid rows regs arrays i (front_met (instr_conditions rows regs arrays i) _ h),
+  instrs_valid rows regs arrays
+      is (rest_met (instr_conditions rows regs arrays i) _ h),
+)
 
-valid_instrs : (rows : List ShapeRow) (regs arrays : ℕ) (is : List Instr) → AllByRecursion (IsValidInstr rows regs arrays) is → first_broken (flat_map (λ i. instr_conditions rows regs arrays i) is) ≡ None
+valid_instrs : (rows : List ShapeRow) (regs arrays : ℕ) (is : List Instr) → AllByRecursion (IsValidInstr rows regs arrays) is
+    → first_broken (flat_map (λ i. instr_conditions rows regs arrays i) is) ≡ None
 valid_instrs rows regs arrays [] h = refl
-valid_instrs rows regs arrays (i ∷ is) h = both_met (instr_conditions rows regs arrays i) _ (valid_instr rows regs arrays i h.0) (valid_instrs rows regs arrays is h.1)
+valid_instrs rows regs arrays (i ∷ is) h = both_met (instr_conditions rows regs arrays i) _ (valid_instr rows regs arrays i h.0)
+    (valid_instrs rows regs arrays is h.1)
 
 later : (blocks b t : ℕ) → is_later blocks b t ≡ true → (b < t) × (t < blocks)
 later blocks b t h = let r = and_parts (nat_lt b t) (nat_lt t blocks) h in (ltb-true b t r.0, ltb-true t blocks r.1)
@@ -182,7 +195,8 @@ not_value false h = refl
 
 end_valid : (regs : ℕ) (value : Bool) (blocks b : ℕ) (e : End) → first_broken (end_conditions regs value blocks b e) ≡ None → IsValidEnd regs value blocks b e
 end_valid regs value blocks b (ends.Jump t) h = later blocks b t (one_met _ Target h)
-end_valid regs value blocks b (ends.Branch r t u) h = let s = two_met (nat_lt r regs) (is_later blocks b t && is_later blocks b u) Register Target h in let k = and_parts (is_later blocks b t) (is_later blocks b u) s.1 in (ltb-true r regs s.0, later blocks b t k.0, later blocks b u k.1)
+end_valid regs value blocks b (ends.Branch r t u) h = let s = two_met (nat_lt r regs) (is_later blocks b t && is_later blocks b u) Register Target h in let k =
+    and_parts (is_later blocks b t) (is_later blocks b u) s.1 in (ltb-true r regs s.0, later blocks b t k.0, later blocks b u k.1)
 end_valid regs value blocks b (ends.Loop t) h = leb-true t b (one_met _ Target h)
 end_valid regs value blocks b (ends.Return None) h = (tt, not_value value (one_met _ ReturnKind h))
 end_valid regs value blocks b (ends.Return (Some r)) h = let s = two_met (nat_lt r regs) value Register ReturnKind h in (ltb-true r regs s.0, s.1)
@@ -190,25 +204,34 @@ end_valid regs value blocks b (ends.Exit r) h = ltb-true r regs (one_met _ Regis
 
 valid_end : (regs : ℕ) (value : Bool) (blocks b : ℕ) (e : End) → IsValidEnd regs value blocks b e → first_broken (end_conditions regs value blocks b e) ≡ None
 valid_end regs value blocks b (ends.Jump t) h = one_meets _ Target (later_is blocks b t h)
-valid_end regs value blocks b (ends.Branch r t u) h = two_meet _ _ Register Target (lt-ltb r regs h.0) (and_from (is_later blocks b t) (is_later blocks b u) (later_is blocks b t h.1) (later_is blocks b u h.2))
+valid_end regs value blocks b (ends.Branch r t u) h = two_meet _ _ Register Target (lt-ltb r regs h.0)
+    (and_from (is_later blocks b t) (is_later blocks b u) (later_is blocks b t h.1) (later_is blocks b u h.2))
 valid_end regs value blocks b (ends.Loop t) h = one_meets _ Target (le-leb t b h)
 valid_end regs value blocks b (ends.Return None) h = one_meets _ ReturnKind (ap not h.1)
 valid_end regs value blocks b (ends.Return (Some r)) h = two_meet _ _ Register ReturnKind (lt-ltb r regs h.0) h.1
 valid_end regs value blocks b (ends.Exit r) h = one_meets _ Register (lt-ltb r regs h)
 
-blocks_valid : (rows : List ShapeRow) (r : RoutineParts) (b : ℕ) (xs : List Block) → first_broken (blocks_conditions rows r b xs) ≡ None → AreValidBlocks rows r b xs
+blocks_valid : (rows : List ShapeRow) (r : RoutineParts) (b : ℕ) (xs : List Block) → first_broken (blocks_conditions rows r b xs) ≡ None
+    → AreValidBlocks rows r b xs
 blocks_valid rows r b [] h = tt
 blocks_valid rows r b (x ∷ xs) h =
     let is : List _ = flat_map (λ i. instr_conditions rows r.regs (length r.arrays) i) x.instrs in
     let e : List _ = end_conditions r.regs r.value (length r.blocks) b x.end in
-    let k = front_met (is ++ e) (blocks_conditions rows r (b + 1) xs) h in
-    (instrs_valid rows r.regs (length r.arrays) x.instrs (front_met is e k), end_valid r.regs r.value (length r.blocks) b x.end (rest_met is e k), blocks_valid rows r (b + 1) xs (rest_met (is ++ e) (blocks_conditions rows r (b + 1) xs) h))
+    let k = front_met (is ++ e) (blocks_conditions rows r (b + 1) xs) h in (
+      instrs_valid rows r.regs (length r.arrays) x.instrs (front_met is e k),
+      end_valid r.regs r.value (length r.blocks) b x.end (rest_met is e k),
+      blocks_valid
+          rows r (b + 1) xs (rest_met (is ++ e) (blocks_conditions rows r (b + 1) xs) h),
+    )
 
-valid_blocks : (rows : List ShapeRow) (r : RoutineParts) (b : ℕ) (xs : List Block) → AreValidBlocks rows r b xs → first_broken (blocks_conditions rows r b xs) ≡ None
+valid_blocks : (rows : List ShapeRow) (r : RoutineParts) (b : ℕ) (xs : List Block) → AreValidBlocks rows r b xs
+    → first_broken (blocks_conditions rows r b xs) ≡ None
 valid_blocks rows r b [] h = refl
 valid_blocks rows r b (x ∷ xs) h =
-    both_met (flat_map (λ i. instr_conditions rows r.regs (length r.arrays) i) x.instrs ++ end_conditions r.regs r.value (length r.blocks) b x.end) (blocks_conditions rows r (b + 1) xs)
-    (both_met (flat_map (λ i. instr_conditions rows r.regs (length r.arrays) i) x.instrs) (end_conditions r.regs r.value (length r.blocks) b x.end) (valid_instrs rows r.regs (length r.arrays) x.instrs h.0) (valid_end r.regs r.value (length r.blocks) b x.end h.1))
+    both_met (flat_map (λ i. instr_conditions rows r.regs (length r.arrays) i) x.instrs ++ end_conditions r.regs r.value (length r.blocks) b x.end)
+    (blocks_conditions rows r (b + 1) xs)
+    (both_met (flat_map (λ i. instr_conditions rows r.regs (length r.arrays) i) x.instrs) (end_conditions r.regs r.value (length r.blocks) b x.end)
+    (valid_instrs rows r.regs (length r.arrays) x.instrs h.0) (valid_end r.regs r.value (length r.blocks) b x.end h.1))
     (valid_blocks rows r (b + 1) xs h.2)
 
 met_is_valid : (rows : List ShapeRow) (r : RoutineParts) → first_broken (conditions rows r) ≡ None → IsValid rows r
@@ -218,7 +241,8 @@ met_is_valid rows r h =
     record { params = leb-true r.params r.regs p.0; some_block = ltb-true 0 (length r.blocks) t.0; blocks = blocks_valid rows r 0 r.blocks t.1 }
 
 valid_is_met : (rows : List ShapeRow) (r : RoutineParts) → IsValid rows r → first_broken (conditions rows r) ≡ None
-valid_is_met rows r h = cons_met _ Params ((nat_lt 0 (length r.blocks), Target) ∷ blocks_conditions rows r 0 r.blocks) (le-leb r.params r.regs h.params) (cons_met _ Target (blocks_conditions rows r 0 r.blocks) (lt-ltb 0 (length r.blocks) h.some_block) (valid_blocks rows r 0 r.blocks h.blocks))
+valid_is_met rows r h = cons_met _ Params ((nat_lt 0 (length r.blocks), Target) ∷ blocks_conditions rows r 0 r.blocks) (le-leb r.params r.regs h.params)
+    (cons_met _ Target (blocks_conditions rows r 0 r.blocks) (lt-ltb 0 (length r.blocks) h.some_block) (valid_blocks rows r 0 r.blocks h.blocks))
 
 is_none : {X : Type 0} (o : Option X) → IsNone o → o ≡ None
 is_none None h = refl
@@ -232,5 +256,6 @@ pub tells_valid : (rows : List ShapeRow) (r : RoutineParts) (o : Option Flaw) �
 tells_valid rows r o e = ((λ h. met_is_valid rows r (sym e ∙ is_none o h)), (λ h. none_is o (e ∙ valid_is_met rows r h)))
 
 -- with registers for the parameters and a block, what is left are the blocks
-pub past_start : (rows : List ShapeRow) (r : RoutineParts) → r.params ≤ r.regs → (length r.blocks == 0) ≡ false → first_broken (conditions rows r) ≡ first_broken (blocks_conditions rows r 0 r.blocks)
+pub past_start : (rows : List ShapeRow) (r : RoutineParts) → r.params ≤ r.regs → (length r.blocks == 0) ≡ false
+    → first_broken (conditions rows r) ≡ first_broken (blocks_conditions rows r 0 r.blocks)
 past_start rows r le some = rw (le-leb r.params r.regs le, lt-ltb 0 (length r.blocks) (omega (arith, eqb-false (length r.blocks) 0 some))) refl

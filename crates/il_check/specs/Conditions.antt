@@ -1,6 +1,7 @@
 -- What a valid routine has to meet: its conditions one by one, in the order of the text, and those of one instruction or
 -- end in the order of the flaws.
-use Rattle.std.specs.Prelude.{ℕ, ◌+◌, ◌&&◌, Bool, true, false, not, nat_lt, nat_le, nat_eq, List, [], ◌∷◌, ◌++◌, Option, Some, None, is_some, if◌then◌else◌, length, flat_map, option_to_list}
+use Rattle.std.specs.Prelude.{ℕ, ◌+◌, ◌&&◌, Bool, true, false, not, nat_lt, nat_le, nat_eq, List, [], ◌∷◌, ◌++◌, Option, Some, None, is_some}
+use Rattle.std.specs.Prelude.{if◌then◌else◌, length, flat_map, option_to_list}
 use Rattle.std.specs.List.{list_all}
 use Rattle.std.specs.Bool.{beq}
 use Rattle.il_core.specs.declared.instr.Block.{Block}

@@ -9,7 +9,8 @@ use Rattle.il_core.specs.declared.instr.Instr.{Instr}
 use Rattle.il_core.specs.declared.instr.Instr.TheVariants.{Const, Move, Conv, Bin, Get, Set, GetX, SetX, GetA, SetA, Clear, Turn, Call, GetChar, PutChar}
 use Rattle.il_core.specs.declared.instr.End.{End}
 use Rattle.il_core.specs.declared.instr.End.TheVariants as ends
-use Rattle.il_core.specs.World.{World, Outcome, Returns, Ends, Stuck, Trapped, OutOfTurns, Exit, ended, first_byte, after_get, low_byte, after_put, turn_at, choose, put_element, with_object, each, with_word, with_return}
+use Rattle.il_core.specs.World.{World, Outcome, Returns, Ends, Stuck, Trapped, OutOfTurns, Exit, ended, first_byte, after_get, low_byte, after_put}
+use Rattle.il_core.specs.World.{turn_at, choose, put_element, with_object, each, with_word, with_return}
 use Rattle.il_core.specs.Meaning.{Frame, with_reg, cleared, received, returned, Lengths, Next, Act, step, finish}
 
 -- an instruction goes on from a frame and a world, or the outcome is settled

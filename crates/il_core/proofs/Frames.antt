@@ -20,5 +20,6 @@ choice false n h = sym (h refl)
 pub frame_full : (params : ℕ) (args : List ℕ) → length args ≤ params → frame_of params args ≡ record { regs = from_list args; arrays = λ a i. 0 }
 frame_full params args le =
     let regs : (λ (x : ℕ). if nat_lt x params then from_list args x else 0) ≡ from_list args = fun_ext (λ x.
-    choice (nat_lt x params) (from_list args x) (λ e. elim (cases_lt x params) [ inl l ↦ cc (lt-ltb x params l) | inr g ↦ from_list_past args x (omega arith) ])) in
+    choice (nat_lt x params) (from_list args x) (λ e. elim (cases_lt x params)
+    [ inl l ↦ cc (lt-ltb x params l) | inr g ↦ from_list_past args x (omega arith) ])) in
     λ j. record { regs = regs j; arrays = λ a i. 0 }

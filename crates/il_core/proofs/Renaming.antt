@@ -82,7 +82,8 @@ module _ (m : Names) (P Q : ℕ → Type 0) (regs : KeepsApart m.reg) (arrays : 
   }
     where
       at : (x : ℕ) → Q x → (t : Bool) → nat_eq x a ≡ t
-          → (if nat_eq x a then put (f.arrays a) i v else f.arrays x) ≡ (if nat_eq (m.array x) (m.array a) then put (g.arrays (m.array a)) i1 v1 else g.arrays (m.array x))
+          → (if nat_eq x a then put (f.arrays a) i v else f.arrays x) ≡
+          (if nat_eq (m.array x) (m.array a) then put (g.arrays (m.array a)) i1 v1 else g.arrays (m.array x))
       at x fits true e =
           ap (λ (c : Bool). if c then put (f.arrays a) i v else f.arrays x) e
           ∙ ap (λ (s : ℕ → ℕ). put s i v) (subst (λ (y : ℕ). f.arrays y ≡ g.arrays (m.array y)) (eqb-true x a e) (h.array x fits))
@@ -139,12 +140,14 @@ module _ (m : Names) (P Q : ℕ → Type 0) (regs : KeepsApart m.reg) (arrays : 
       effect_renamed (GetX d q i) f g w fits calls h =
           let pid = fits.object q (eq-eqb q q refl) in
           let index = h.reg i (fits.reg i (first_named i [])) in
-          access q (f.regs i) (g.regs (m.reg i)) f g (with_reg f d (w.objects q (f.regs i))) (with_reg g (m.reg d) (w.objects (m.pid q) (g.regs (m.reg i)))) w w w
+          access q (f.regs i) (g.regs (m.reg i)) f g (with_reg f d (w.objects q (f.regs i))) (with_reg g (m.reg d) (w.objects (m.pid q) (g.regs (m.reg i)))) w w
+          w
           pid index (refl, holds_put f g d _ _ (ap₂ {A = ℕ} {B = ℕ} {C = ℕ} (λ x v. w.objects x v) (sym pid) index) h)
       effect_renamed (SetX q i s) f g w fits calls h =
           let pid = fits.object q (eq-eqb q q refl) in
           let index = h.reg i (fits.reg i (first_named i (s ∷ []))) in
-          access q (f.regs i) (g.regs (m.reg i)) f g f g w (with_object w q (f.regs i) (f.regs s)) (with_object w (m.pid q) (g.regs (m.reg i)) (g.regs (m.reg s)))
+          access q (f.regs i) (g.regs (m.reg i)) f g f g w (with_object w q (f.regs i) (f.regs s))
+          (with_object w (m.pid q) (g.regs (m.reg i)) (g.regs (m.reg s)))
           pid index (
             ap₂ {A = ℕ} {B = ℕ} {C = World S} (λ x v. with_object w x v (f.regs s)) (sym pid) index
                 ∙ ap (λ (v : ℕ). with_object w (m.pid q) (g.regs (m.reg i)) v) (h.reg s (fits.reg s (second_named i s))),
@@ -191,7 +194,8 @@ module _ (m : Names) (P Q : ℕ → Type 0) (regs : KeepsApart m.reg) (arrays : 
     way_moved (Back t) = Back (m.block t)
     way_moved (Over o) = Over o
 
-    pub way_renamed : (e : End) (f g : Frame) (w : World S) → ((x : ℕ) → end_reads e x ≡ true → P x) → Kept f g → way_moved (way e f w) ≡ way (renamed_end m e) g w
+    pub way_renamed : (e : End) (f g : Frame) (w : World S) → ((x : ℕ) → end_reads e x ≡ true → P x) → Kept f g
+        → way_moved (way e f w) ≡ way (renamed_end m e) g w
     way_renamed (ends.Jump t) f g w fits h = refl
     way_renamed (ends.Branch r t u) f g w fits h = ap On (choose_moved m (f.regs r) (g.regs (m.reg r)) t u (h.reg r (fits r (eq-eqb r r refl))))
     way_renamed (ends.Loop t) f g w fits h = refl

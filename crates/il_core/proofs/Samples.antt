@@ -63,10 +63,27 @@ at_the_end = refl
 -- routine 2 adds 1 to an element of its array, to a register and to an object, and gives their sum. At its second
 -- call array and register are 0 again, and the object is not.
 abbrev counter : RoutineParts
-counter = record { pid = 2; params = 0; value = true; regs = 5; entry = 1; arrays = 3 ∷ []; blocks = block_of (Const 0 (word 1) ∷ GetA 1 0 0 ∷ Bin op.AddS 1 1 0 ∷ SetA 0 0 1 ∷ Bin op.AddS 2 2 0 ∷ GetX 3 1 0 ∷ Bin op.AddS 3 3 0 ∷ SetX 1 0 3 ∷ Bin op.AddS 4 1 2 ∷ Bin op.AddS 4 4 3 ∷ []) (Return (Some 4)) ∷ [] }
+counter = record {
+  pid = 2;
+  params = 0;
+  value = true;
+  regs = 5;
+  entry = 1;
+  arrays = 3 ∷ [];
+  blocks = block_of
+      (Const 0 (word 1) ∷ GetA 1 0 0 ∷ Bin op.AddS 1 1 0 ∷ SetA 0 0 1 ∷ Bin op.AddS 2 2 0 ∷ GetX 3 1 0 ∷ Bin op.AddS 3 3 0 ∷ SetX 1 0 3 ∷ Bin op.AddS 4 1 2 ∷
+      Bin
+      op.AddS 4 4 3 ∷ []) (Return (Some 4)) ∷ [];
+}
 
 abbrev twice : IlProgram
-twice = record { shapes = row_of 0 (codes "main") (shape.Routine 0 true) ∷ row_of 1 (codes "g") (shape.Object 2) ∷ row_of 2 (codes "f.1") (shape.Routine 0 true) ∷ []; objects = record { pid = 1; words = 2; init = word 0 ∷ word 5 ∷ [] } ∷ []; routines = main_of 2 [] (block_of (Call (Some 0) 2 1 [] ∷ Call (Some 1) 2 1 [] ∷ []) (Exit 1) ∷ []) ∷ counter ∷ [] }
+twice = record {
+  shapes = row_of 0 (codes "main") (shape.Routine 0 true) ∷ row_of 1 (codes "g") (shape.Object 2) ∷ row_of 2 (codes "f.1") (shape.Routine 0 true)
+      ∷ [];
+  objects = record { pid = 1; words = 2; init = word 0 ∷ word 5 ∷ [] } ∷ [];
+  routines = main_of 2 []
+      (block_of (Call (Some 0) 2 1 [] ∷ Call (Some 1) 2 1 [] ∷ []) (Exit 1) ∷ []) ∷ counter ∷ [];
+}
 
 -- 1 + 1 + 6, and then 1 + 1 + 7
 twice_run : il_run twice [] 2 ≡ seen [] (exits 9)
@@ -84,7 +101,8 @@ calls_are_two = refl
 
 -- `clear r1 2 a0 1` makes r1 and r2 0, and not r3
 abbrev clears : IlProgram
-clears = alone (main_of 5 (2 ∷ []) (block_of (Const 1 (word 1) ∷ Const 2 (word 2) ∷ Const 3 (word 3) ∷ SetA 0 1 3 ∷ Clear 1 2 0 1 ∷ GetA 4 0 0 ∷ Bin op.AddS 4 4 1 ∷ Bin op.AddS 4 4 2 ∷ Bin op.AddS 4 4 3 ∷ []) (Return (Some 4)) ∷ []))
+clears = alone (main_of 5 (2 ∷ []) (block_of (Const 1 (word 1) ∷ Const 2 (word 2) ∷ Const 3 (word 3) ∷ SetA 0 1 3 ∷ Clear 1 2 0 1 ∷ GetA 4 0 0 ∷ Bin op.AddS 4 4
+    1 ∷ Bin op.AddS 4 4 2 ∷ Bin op.AddS 4 4 3 ∷ []) (Return (Some 4)) ∷ []))
 
 clears_run : il_run clears [] 0 ≡ seen [] (exits 3)
 clears_run = refl
@@ -99,7 +117,8 @@ outside_traps = refl
 
 -- putchar puts out and gives the low 8 bits; the second block of a branch is for 0
 abbrev branches : IlProgram
-branches = alone (main_of 3 [] (block_of (Const 0 (word 256) ∷ PutChar 1 0 ∷ []) (Branch 1 1 2) ∷ block_of [] (Exit 0) ∷ block_of (Conv 2 Char 0 ∷ []) (Return (Some 2)) ∷ []))
+branches = alone (main_of 3 [] (block_of (Const 0 (word 256) ∷ PutChar 1 0 ∷ []) (Branch 1 1 2) ∷ block_of [] (Exit 0) ∷ block_of (Conv 2 Char 0 ∷ [])
+    (Return (Some 2)) ∷ []))
 
 branches_run : il_run branches [] 0 ≡ seen (0 ∷ []) (exits 0)
 branches_run = refl
@@ -131,6 +150,7 @@ twice_text = refl
 
 branches_text : text branches ≡ lines_of (
     codes "hlo-il 1" ∷ codes "routine 0 main params 0 value regs 3 entry 1" ∷ codes "b0:" ∷ codes "  r0 = const 256" ∷ codes "  r1 = putchar r0"
-    ∷ codes "  branch r1 b1 b2" ∷ codes "b1:" ∷ codes "  exit r0" ∷ codes "b2:" ∷ codes "  r2 = conv char r0" ∷ codes "  return r2" ∷ codes "end" ∷ codes "done" ∷ [])
+    ∷ codes "  branch r1 b1 b2" ∷ codes "b1:" ∷ codes "  exit r0" ∷ codes "b2:" ∷ codes "  r2 = conv char r0" ∷ codes "  return r2" ∷ codes "end" ∷ codes "done"
+    ∷ [])
 unfolding digits
 branches_text = refl

@@ -117,7 +117,8 @@ module _ {S : Type 0} where
   )
   unread call n k Turn f g w h = spent_alike w.turns f g w
   unread call n k (Call dest callee count args) f g w h =
-      subst (λ (vs : List ℕ). Alike (Call dest callee count args) f g (answered (call k callee (each f.regs args) w) f dest) (answered (call k callee vs w) g dest))
+      subst (λ (vs : List ℕ). Alike (Call dest callee count args) f g (answered (call k callee (each f.regs args) w) f dest)
+      (answered (call k callee vs w) g dest))
       (each_alike f.regs g.regs args h.regs) (answer_alike dest callee count args f g (call k callee (each f.regs args) w))
   unread call n k (GetChar d) f g w h = (refl, put_alike (GetChar d) d _ _ f g (λ x. refl) refl)
   unread call n k (PutChar d s) f g w h =

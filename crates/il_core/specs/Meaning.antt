@@ -12,7 +12,8 @@ use Rattle.il_core.specs.declared.instr.End.TheVariants as ends
 use Rattle.il_core.specs.declared.program.IlProgram.{IlProgram}
 use Rattle.il_core.specs.Routine.{RoutineParts}
 use Rattle.il_core.specs.Program.{routine_at, words_of, initial_word, main_pid}
-use Rattle.il_core.specs.World.{World, Ending, Exit, OutOfTurns, Outcome, Returns, Ends, Stuck, ended, first_byte, after_get, low_byte, after_put, turn, choose, put, put_element, with_object, from_list, each, with_word, within, with_return}
+use Rattle.il_core.specs.World.{World, Ending, Exit, OutOfTurns, Outcome, Returns, Ends, Stuck, ended, first_byte, after_get, low_byte, after_put, turn}
+use Rattle.il_core.specs.World.{choose, put, put_element, with_object, from_list, each, with_word, within, with_return}
 
 -- the registers and the local arrays of one call
 pub record Frame : Type 0 where

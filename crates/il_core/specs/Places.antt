@@ -16,7 +16,8 @@ sites_before (x ∷ xs) (suc b) k = sites_before xs b (sites_of x.instrs + k)
 abbrev pub from_block : {S : Type 0} → Act S → (ℕ → Next S) → Lengths → List Block → ℕ → ℕ → ℕ → Next S
 from_block call back n [] b k j f w = Stuck
 from_block call back n (x ∷ xs) b k j f w =
-    steps call n (sites_of (take j x.instrs) + k) (drop j x.instrs) (λ f1 w1. finish back (λ u f2 w2. enter call back n xs (suc b) (sites_of x.instrs + k) u f2 w2) x.end f1 w1) f w
+    steps call n (sites_of (take j x.instrs) + k) (drop j x.instrs)
+    (λ f1 w1. finish back (λ u f2 w2. enter call back n xs (suc b) (sites_of x.instrs + k) u f2 w2) x.end f1 w1) f w
 
 -- the calls of a routine, its turn included
 abbrev pub calls_of : {S : Type 0} → Recorder S → IlProgram → RoutineParts → Act S

@@ -135,7 +135,8 @@ arrays_parts (n ∷ ns) = codes "arrays" ∷ map decimal (n ∷ ns)
 
 abbrev pub routine_parts : List ℕ → RoutineParts → List Part
 routine_parts name r =
-    codes "routine" ∷ decimal r.pid ∷ name ∷ codes "params" ∷ decimal r.params ∷ value_name r.value ∷ codes "regs" ∷ decimal r.regs ∷ codes "entry" ∷ decimal r.entry ∷ arrays_parts r.arrays
+    codes "routine" ∷ decimal r.pid ∷ name ∷ codes "params" ∷ decimal r.params ∷ value_name r.value ∷ codes "regs" ∷ decimal r.regs ∷ codes "entry" ∷ decimal
+    r.entry ∷ arrays_parts r.arrays
 
 -- a routine under its name
 abbrev pub routine_text : List ℕ → RoutineParts → List ℕ

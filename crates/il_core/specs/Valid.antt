@@ -55,7 +55,8 @@ IsValidInstr rows regs arrays (GetA d a i) = (d < regs) × (i < regs) × (a < ar
 IsValidInstr rows regs arrays (SetA a i s) = (i < regs) × (s < regs) × (a < arrays)
 IsValidInstr rows regs arrays (Clear r c a m) = (r + c ≤ regs) × (a + m ≤ arrays)
 IsValidInstr rows regs arrays Turn = ⊤
-IsValidInstr rows regs arrays (Call dest p count args) = IsRegIfSome regs dest × AllByRecursion (λ x. x < regs) args × IsRoutineShape (shape_at rows p) (length args) (is_wanted dest)
+IsValidInstr rows regs arrays (Call dest p count args) = IsRegIfSome regs dest × AllByRecursion (λ x. x < regs) args × IsRoutineShape (shape_at rows p)
+    (length args) (is_wanted dest)
 IsValidInstr rows regs arrays (GetChar d) = d < regs
 IsValidInstr rows regs arrays (PutChar d s) = (d < regs) × (s < regs)
 

@@ -1,6 +1,7 @@
 //! The operands of instructions and ends.
 ghost use Rattle.std.specs.Prelude.{◌≡◌};
-ghost use Rattle.il_core.specs.Operands.{array_of, callee_of, can_trap, destination, end_source, is_named, is_pure, jumps, loops_to, object_of, operator_can_trap, reads, sources, targets, writes};
+ghost use Rattle.il_core.specs.Operands.{array_of, callee_of, can_trap, destination, end_source, is_named, is_pure, jumps, loops_to, object_of};
+ghost use Rattle.il_core.specs.Operands.{operator_can_trap, reads, sources, targets, writes};
 
 use crate::instr::{End, Instr};
 use hlo_num::Op;

@@ -34,7 +34,15 @@ impl Model for Routine {
 
     ghost view = { λ r. record { pid = r.pid; params = r.params; value = r.value; regs = r.regs; entry = r.entry; arrays = r.arrays; blocks = r.blocks } };
 
-    ghost invariant = { λ r. IsWithinLimits (record { pid = r.pid; params = r.params; value = r.value; regs = r.regs; entry = r.entry; arrays = r.arrays; blocks = r.blocks }) };
+    ghost invariant = { λ r. IsWithinLimits (record {
+      pid = r.pid;
+      params = r.params;
+      value = r.value;
+      regs = r.regs;
+      entry = r.entry;
+      arrays = r.arrays;
+      blocks = r.blocks;
+    }) };
 }
 
 impl Routine {

@@ -1,5 +1,6 @@
 -- Numbers and names that stand once in a list.
-use Rattle.std.proofs.Common.{◌≡◌, ◌≢◌, ℕ, suc, ◌+◌, ◌≤◌, Bool, true, false, List, [], ◌∷◌, ◌++◌, Option, Some, None, map, refl, sym, ◌∙◌, ap, subst, inl, inr, arith}
+use Rattle.std.proofs.Common.{◌≡◌, ◌≢◌, ℕ, suc, ◌+◌, ◌≤◌, Bool, true, false, List, [], ◌∷◌, ◌++◌, Option, Some, None, map, refl, sym, ◌∙◌, ap, subst}
+use Rattle.std.proofs.Common.{inl, inr, arith}
 use Rattle.std.specs.Prelude.{◌==◌, ◌||◌, ◌&&◌, not, if◌then◌else◌, sum_by, option_map}
 use Rattle.std.specs.List.{AllByRecursion, list_any}
 use Rattle.std.specs.List.Sorted.{IsPermutation, IsNonDecreasingBy}
@@ -68,14 +69,16 @@ mapped_none : (o : Option ℕ) → option_map (λ k. k + 1) o ≡ None → o ≡
 mapped_none None e = refl
 mapped_none (Some n) e = absurd cc
 
-pub placed_head : (used : List Item) (before : Option ℕ) (x : Item) (xs : List Item) → first_misplaced used before (x ∷ xs) ≡ None → (is_placed used before x ≡ true) × (first_misplaced (used ++ x ∷ []) (Some x.pid) xs ≡ None)
+pub placed_head : (used : List Item) (before : Option ℕ) (x : Item) (xs : List Item) → first_misplaced used before (x ∷ xs) ≡ None
+    → (is_placed used before x ≡ true) × (first_misplaced (used ++ x ∷ []) (Some x.pid) xs ≡ None)
 placed_head used before x xs e = elim (cases_Bool (is_placed used before x)) [
   | inl is ↦ (is, mapped_none (first_misplaced (used ++ x ∷ []) (Some x.pid) xs) (rw is at e))
   | inr misses ↦ let s : Some 0 ≡ None = rw misses at e in absurd (cc s)
 ]
 
 -- of items in order, a test that was used passes none, and any test passes one at most
-once : (t : Item → Bool) → IsTest t → (used : List Item) (before : Option ℕ) (xs : List Item) → first_misplaced used before xs ≡ None → (list_any t used ≡ true → count t xs ≡ 0) × (count t xs ≤ 1)
+once : (t : Item → Bool) → IsTest t → (used : List Item) (before : Option ℕ) (xs : List Item) → first_misplaced used before xs ≡ None
+    → (list_any t used ≡ true → count t xs ≡ 0) × (count t xs ≤ 1)
 once t test used before [] e = ((λ u. count_none t), (omega (arith, count_none t)))
 once t test used before (x ∷ xs) e =
     let h = placed_head used before x xs e in
@@ -108,7 +111,8 @@ split None b e = (refl, e)
 split (Some k) b e = absurd cc
 
 -- objects and routines that are in order, apart
-pub object_part : (os : List NamedObject) (rs : List NamedRoutine) → first_out_of_order os rs ≡ None → (first_misplaced [] None (object_items os) ≡ None) × (first_misplaced (object_items os) None (routine_items rs) ≡ None)
+pub object_part : (os : List NamedObject) (rs : List NamedRoutine) → first_out_of_order os rs ≡ None
+    → (first_misplaced [] None (object_items os) ≡ None) × (first_misplaced (object_items os) None (routine_items rs) ≡ None)
 object_part os rs e = split (first_misplaced [] None (object_items os)) (first_misplaced (object_items os) None (routine_items rs)) e
 
 any_zero : (t : Item → Bool) (xs : List Item) → list_any t xs ≡ false → count t xs ≡ 0
@@ -119,7 +123,8 @@ any_zero t (x ∷ xs) e = elim (cases_Bool (t x)) [
 ]
 
 -- a test passes one at most of all items
-all_once : (t : Item → Bool) → IsTest t → (os : List NamedObject) (rs : List NamedRoutine) → first_out_of_order os rs ≡ None → count t (object_items os) + count t (routine_items rs) ≤ 1
+all_once : (t : Item → Bool) → IsTest t → (os : List NamedObject) (rs : List NamedRoutine) → first_out_of_order os rs ≡ None
+    → count t (object_items os) + count t (routine_items rs) ≤ 1
 all_once t test os rs e =
     let p = object_part os rs e in
     let a = once t test [] None (object_items os) p.0 in
@@ -129,7 +134,8 @@ all_once t test os rs e =
       | inr misses ↦ let none = any_zero t (object_items os) misses in omega (arith, none, b.1)
     ]
 
-rows_pids : (q : ℕ) (os : List NamedObject) (rs : List NamedRoutine) → first_out_of_order os rs ≡ None → count (λ (r : ShapeRow). r.pid == q) (all_rows os rs) ≤ 1
+rows_pids : (q : ℕ) (os : List NamedObject) (rs : List NamedRoutine) → first_out_of_order os rs ≡ None
+    → count (λ (r : ShapeRow). r.pid == q) (all_rows os rs) ≤ 1
 rows_pids q os rs e =
     let t = λ (y : Item). y.pid == q in
     let a = count_append (λ (r : ShapeRow). r.pid == q) (map object_row os) (map routine_row rs) in
@@ -137,7 +143,8 @@ rows_pids q os rs e =
     let c = count_map routine_row (λ (r : ShapeRow). r.pid == q) rs ∙ sym (count_map routine_item t rs) in
     omega (arith, a, b, c, all_once t (pid_test q) os rs e)
 
-rows_names : (q : List ℕ) (os : List NamedObject) (rs : List NamedRoutine) → first_out_of_order os rs ≡ None → count (λ (r : ShapeRow). bytes_eq r.name q) (all_rows os rs) ≤ 1
+rows_names : (q : List ℕ) (os : List NamedObject) (rs : List NamedRoutine) → first_out_of_order os rs ≡ None
+    → count (λ (r : ShapeRow). bytes_eq r.name q) (all_rows os rs) ≤ 1
 rows_names q os rs e =
     let t = λ (y : Item). bytes_eq y.name q in
     let a = count_append (λ (r : ShapeRow). bytes_eq r.name q) (map object_row os) (map routine_row rs) in
@@ -145,7 +152,8 @@ rows_names q os rs e =
     let c = count_map routine_row (λ (r : ShapeRow). bytes_eq r.name q) rs ∙ sym (count_map routine_item t rs) in
     omega (arith, a, b, c, all_once t (name_test q) os rs e)
 
-rest_once : (x : ShapeRow) (rows : List ShapeRow) → ((q : ℕ) → count (λ (r : ShapeRow). r.pid == q) (x ∷ rows) ≤ 1) → (q : ℕ) → count (λ (r : ShapeRow). r.pid == q) rows ≤ 1
+rest_once : (x : ShapeRow) (rows : List ShapeRow) → ((q : ℕ) → count (λ (r : ShapeRow). r.pid == q) (x ∷ rows) ≤ 1) → (q : ℕ)
+    → count (λ (r : ShapeRow). r.pid == q) rows ≤ 1
 rest_once x rows k q = let c = count_cons (λ (r : ShapeRow). r.pid == q) x rows in omega (arith, c, k q)
 
 differ : (x y : ShapeRow) (ys : List ShapeRow) → ((q : ℕ) → count (λ (r : ShapeRow). r.pid == q) (x ∷ y ∷ ys) ≤ 1) → x.pid ≢ y.pid
@@ -161,8 +169,10 @@ rises (x ∷ y ∷ ys) h k =
     let le : x.pid ≤ y.pid = h 0 1 x (omega arith) (omega arith) in
     (omega (arith, le, differ x y ys k), rises (y ∷ ys) (λ i j d a b. h (suc i) (suc j) d (omega arith) (omega arith)) (rest_once x (y ∷ ys) k))
 
-pub rows_rise : (os : List NamedObject) (rs : List NamedRoutine) (rows : List ShapeRow) → first_out_of_order os rs ≡ None → IsPermutation (all_rows os rs) rows → IsNonDecreasingBy (λ r. r.pid) rows → IsRising (λ r. r.pid) rows
-rows_rise os rs rows e h k = rises rows k (λ q. let m = count_moved (λ (r : ShapeRow). r.pid == q) (all_rows os rs) rows h in omega (arith, m, rows_pids q os rs e))
+pub rows_rise : (os : List NamedObject) (rs : List NamedRoutine) (rows : List ShapeRow) → first_out_of_order os rs ≡ None → IsPermutation (all_rows os rs) rows
+    → IsNonDecreasingBy (λ r. r.pid) rows → IsRising (λ r. r.pid) rows
+rows_rise os rs rows e h k = rises rows k (λ q. let m = count_moved (λ (r : ShapeRow). r.pid == q) (all_rows os rs) rows h
+    in omega (arith, m, rows_pids q os rs e))
 
 -- where none passes, each fails
 none_pass : {X : Type 0} (t : X → Bool) (xs : List X) → count t xs ≡ 0 → AllByRecursion (λ x. t x ≡ false) xs
@@ -172,7 +182,8 @@ none_pass t (x ∷ xs) e = elim (cases_Bool (t x)) [
   | inr misses ↦ (misses, none_pass t xs (sym (count_out t x xs misses) ∙ e))
 ]
 
-other_names : (name : List ℕ) (rows : List ShapeRow) → AllByRecursion (λ (r : ShapeRow). bytes_eq r.name name ≡ false) rows → AllByRecursion (λ (r : ShapeRow). r.name ≢ name) rows
+other_names : (name : List ℕ) (rows : List ShapeRow) → AllByRecursion (λ (r : ShapeRow). bytes_eq r.name name ≡ false) rows
+    → AllByRecursion (λ (r : ShapeRow). r.name ≢ name) rows
 other_names name [] h = tt
 other_names name (r ∷ rows) h = ((λ e. absurd (true≢false (sym ((bytes_eq-Decides r.name name).1 e) ∙ h.0))), other_names name rows h.1)
 
@@ -184,15 +195,18 @@ names_once (row ∷ rows) k =
       names_once rows (λ q. let d = count_cons (λ (r : ShapeRow). bytes_eq r.name q) row rows in omega (arith, d, k q)),
     )
 
-pub rows_names_once : (os : List NamedObject) (rs : List NamedRoutine) (rows : List ShapeRow) → first_out_of_order os rs ≡ None → IsPermutation (all_rows os rs) rows → HasEachNameOnce rows
-rows_names_once os rs rows e h = names_once rows (λ q. let m = count_moved (λ (r : ShapeRow). bytes_eq r.name q) (all_rows os rs) rows h in omega (arith, m, rows_names q os rs e))
+pub rows_names_once : (os : List NamedObject) (rs : List NamedRoutine) (rows : List ShapeRow) → first_out_of_order os rs ≡ None
+    → IsPermutation (all_rows os rs) rows → HasEachNameOnce rows
+rows_names_once os rs rows e h = names_once rows (λ q. let m = count_moved (λ (r : ShapeRow). bytes_eq r.name q) (all_rows os rs) rows h
+    in omega (arith, m, rows_names q os rs e))
 
 all_fail : {X : Type 0} (t : X → Bool) (xs : List X) → AllByRecursion (λ x. t x ≡ false) xs → count t xs ≡ 0
 all_fail t [] h = count_none t
 all_fail t (x ∷ xs) h = count_out t x xs h.0 ∙ all_fail t xs h.1
 
 -- what holds of each row holds of them in another order
-pub each_moved : (t : ShapeRow → Bool) (os : List NamedObject) (rs : List NamedRoutine) (rows : List ShapeRow) → IsPermutation (all_rows os rs) rows → AllByRecursion (λ o. t (object_row o) ≡ false) os → AllByRecursion (λ r. t (routine_row r) ≡ false) rs → AllByRecursion (λ x. t x ≡ false) rows
+pub each_moved : (t : ShapeRow → Bool) (os : List NamedObject) (rs : List NamedRoutine) (rows : List ShapeRow) → IsPermutation (all_rows os rs) rows
+    → AllByRecursion (λ o. t (object_row o) ≡ false) os → AllByRecursion (λ r. t (routine_row r) ≡ false) rs → AllByRecursion (λ x. t x ≡ false) rows
 each_moved t os rs rows h a b = none_pass t rows
     (count_moved t (all_rows os rs) rows h ∙ count_append t (map object_row os) (map routine_row rs)
     ∙ ap (λ n. n + count t (map routine_row rs)) (count_map object_row t os ∙ all_fail (λ o. t (object_row o)) os a)

@@ -1,5 +1,6 @@
 -- What the sets of PIDs and names know, item by item.
-use Rattle.std.proofs.Common.{◌≡◌, ℕ, Bool, true, false, List, [], ◌∷◌, ◌++◌, Option, Some, None, length, take, drop, map, refl, sym, ◌∙◌, ap, subst, append_assoc, append-nil, inl, inr, add-one, suc, arith}
+use Rattle.std.proofs.Common.{◌≡◌, ℕ, Bool, true, false, List, [], ◌∷◌, ◌++◌, Option, Some, None, length, take, drop, map, refl, sym, ◌∙◌, ap, subst}
+use Rattle.std.proofs.Common.{append_assoc, append-nil, inl, inr, add-one, suc, arith}
 use Rattle.std.specs.Prelude.{◌==◌, ◌||◌, ◌&&◌, not, cond, slice_index_or, option_map, ◌<◌, ◌≤◌, ◌+◌}
 use Rattle.std.specs.BTreeSet.{BTreeSet, contains, Updates}
 use Rattle.std.specs.Cmp.{nat_cmp_is}
@@ -40,10 +41,14 @@ or_false false false = refl
 any_push : {X : Type 0} (p : X → Bool) (xs : List X) (x : X) → list_any p (xs ++ x ∷ []) ≡ (list_any p xs || p x)
 any_push p xs x = list_any-append p xs (x ∷ []) ∙ or_false (list_any p xs) (p x)
 
-pub pid_noted : (s n : BTreeSet ℕ) (x : Item) (items : List Item) → Updates nat_cmp s n x.pid true → ((q : ℕ) → contains nat_cmp s q ≡ has_pid items q) → (q : ℕ) → contains nat_cmp n q ≡ has_pid (items ++ x ∷ []) q
-pid_noted s n x items h k q = h.0 q ∙ cond_or (is_eq (nat_cmp x.pid q)) (contains nat_cmp s q) ∙ ap (λ b. b || is_eq (nat_cmp x.pid q)) (k q) ∙ ap (λ b. has_pid items q || b) (is_eq_nat x.pid q) ∙ sym (any_push (λ y. y.pid == q) items x)
+pub pid_noted : (s n : BTreeSet ℕ) (x : Item) (items : List Item) → Updates nat_cmp s n x.pid true → ((q : ℕ) → contains nat_cmp s q ≡ has_pid items q)
+    → (q : ℕ) → contains nat_cmp n q ≡ has_pid (items ++ x ∷ []) q
+pid_noted s n x items h k q = h.0 q ∙ cond_or (is_eq (nat_cmp x.pid q)) (contains nat_cmp s q) ∙ ap (λ b. b || is_eq (nat_cmp x.pid q)) (k q) ∙ ap
+    (λ b. has_pid items q || b) (is_eq_nat x.pid q) ∙ sym (any_push (λ y. y.pid == q) items x)
 
-pub name_noted : (s n : BTreeSet (Bor (List ℕ))) (key : Bor (List ℕ)) (x : Item) (items : List Item) → Updates (λ (x y : Bor (List ℕ)). slice_cmp nat_cmp x.now y.now) s n key true → key.now ≡ x.name → ((q : Bor (List ℕ)) → contains (λ (x y : Bor (List ℕ)). slice_cmp nat_cmp x.now y.now) s q ≡ has_name items q.now)
+pub name_noted : (s n : BTreeSet (Bor (List ℕ))) (key : Bor (List ℕ)) (x : Item) (items : List Item)
+    → Updates (λ (x y : Bor (List ℕ)). slice_cmp nat_cmp x.now y.now) s n key true → key.now ≡ x.name
+    → ((q : Bor (List ℕ)) → contains (λ (x y : Bor (List ℕ)). slice_cmp nat_cmp x.now y.now) s q ≡ has_name items q.now)
     → (q : Bor (List ℕ)) → contains (λ (x y : Bor (List ℕ)). slice_cmp nat_cmp x.now y.now) n q ≡ has_name (items ++ x ∷ []) q.now
 name_noted s n key x items h same k q =
     h.0 q ∙ cond_or (is_eq (slice_cmp nat_cmp key.now q.now)) (contains (λ (x y : Bor (List ℕ)). slice_cmp nat_cmp x.now y.now) s q)
@@ -73,27 +78,34 @@ ordered_start f used items xs h = record {
 here : {X : Type 0} (xs : List X) (k : ℕ) (x : X) → k < length xs → x ≡ slice_index_or xs k x → drop k xs ≡ x ∷ drop (suc k) xs
 here xs k x lt e = drop-cons xs k x lt ∙ ap (λ y. y ∷ drop (suc k) xs) (sym e)
 
-taken : {X : Type 0} (f : X → Item) (items : List Item) (xs : List X) (k : ℕ) (x : X) → k < length xs → x ≡ slice_index_or xs k x → (items ++ map f (take k xs)) ++ f x ∷ [] ≡ items ++ map f (take (k + 1) xs)
+taken : {X : Type 0} (f : X → Item) (items : List Item) (xs : List X) (k : ℕ) (x : X) → k < length xs → x ≡ slice_index_or xs k x
+    → (items ++ map f (take k xs)) ++ f x ∷ [] ≡ items ++ map f (take (k + 1) xs)
 taken f items xs k x lt e =
     append_assoc items (map f (take k xs)) (f x ∷ []) ∙ ap (λ l. items ++ l) (sym (map-append f (take k xs) (x ∷ []))
     ∙ ap (λ y. map f (take k xs ++ y ∷ [])) e ∙ ap (map f) (sym (take-suc xs k x lt)) ∙ ap (λ n. map f (take n xs)) (sym (add-one k)))
 
-not_placed : (items : List Item) (before : Option ℕ) (x : Item) (xs : List Item) → is_placed items before x ≡ false → first_misplaced items before (x ∷ xs) ≡ Some 0
+not_placed : (items : List Item) (before : Option ℕ) (x : Item) (xs : List Item) → is_placed items before x ≡ false
+    → first_misplaced items before (x ∷ xs) ≡ Some 0
 not_placed items before x xs e = rw e refl
 
-placed : (items : List Item) (before : Option ℕ) (x : Item) (xs : List Item) → is_placed items before x ≡ true → first_misplaced items before (x ∷ xs) ≡ option_map (λ k. k + 1) (first_misplaced (items ++ x ∷ []) (Some x.pid) xs)
+placed : (items : List Item) (before : Option ℕ) (x : Item) (xs : List Item) → is_placed items before x ≡ true
+    → first_misplaced items before (x ∷ xs) ≡ option_map (λ k. k + 1) (first_misplaced (items ++ x ∷ []) (Some x.pid) xs)
 placed items before x xs e = rw e refl
 
-pub ordered_stops : {X : Type 0} (f : X → Item) (used : Used) (before : Option ℕ) (k : ℕ) (items : List Item) (xs : List X) (x : X) (fresh both : Bool) → IsOrderedSoFar f used before k items xs → k < length xs → x ≡ slice_index_or xs k x
-    → fresh ≡ (not (has_pid (items ++ map f (take k xs)) (f x).pid) && not (has_name (items ++ map f (take k xs)) (f x).name)) → both ≡ (is_above before (f x).pid && fresh) → both ≡ false
+pub ordered_stops : {X : Type 0} (f : X → Item) (used : Used) (before : Option ℕ) (k : ℕ) (items : List Item) (xs : List X) (x : X) (fresh both : Bool)
+    → IsOrderedSoFar f used before k items xs → k < length xs → x ≡ slice_index_or xs k x
+    → fresh ≡ (not (has_pid (items ++ map f (take k xs)) (f x).pid) && not (has_name (items ++ map f (take k xs)) (f x).name))
+    → both ≡ (is_above before (f x).pid && fresh) → both ≡ false
     → Some k ≡ first_misplaced items None (map f xs)
 ordered_stops f used before k items xs x fresh both h lt e is test bad =
     let p : is_placed (items ++ map f (take k xs)) before (f x) ≡ false = ap (λ b. is_above before (f x).pid && b) (sym is) ∙ sym test ∙ bad in
     sym (h.rest ∙ ap (λ l. option_map (λ n. n + k) (first_misplaced (items ++ map f (take k xs)) before (map f l))) (here xs k x lt e)
     ∙ ap (option_map (λ n. n + k)) (not_placed (items ++ map f (take k xs)) before (f x) (map f (drop (suc k) xs)) p) ∙ ap Some (omega arith))
 
-pub ordered_goes_on : {X : Type 0} (f : X → Item) (used new : Used) (before : Option ℕ) (k : ℕ) (items : List Item) (xs : List X) (x : X) (fresh both : Bool) → IsOrderedSoFar f used before k items xs → k < length xs → x ≡ slice_index_or xs k x
-    → fresh ≡ (not (has_pid (items ++ map f (take k xs)) (f x).pid) && not (has_name (items ++ map f (take k xs)) (f x).name)) → both ≡ (is_above before (f x).pid && fresh) → both ≡ true
+pub ordered_goes_on : {X : Type 0} (f : X → Item) (used new : Used) (before : Option ℕ) (k : ℕ) (items : List Item) (xs : List X) (x : X) (fresh both : Bool)
+    → IsOrderedSoFar f used before k items xs → k < length xs → x ≡ slice_index_or xs k x
+    → fresh ≡ (not (has_pid (items ++ map f (take k xs)) (f x).pid) && not (has_name (items ++ map f (take k xs)) (f x).name))
+    → both ≡ (is_above before (f x).pid && fresh) → both ≡ true
     → Knows new ((items ++ map f (take k xs)) ++ f x ∷ []) → IsOrderedSoFar f new (Some (f x).pid) (k + 1) items xs
 ordered_goes_on f used new before k items xs x fresh both h lt e is test fine knows =
     let p : is_placed (items ++ map f (take k xs)) before (f x) ≡ true = ap (λ b. is_above before (f x).pid && b) (sym is) ∙ sym test ∙ fine in
@@ -107,8 +119,11 @@ ordered_goes_on f used new before k items xs x fresh both h lt e is test fine kn
           ∙ ap (λ m. option_map (λ n. n + (k + 1)) (first_misplaced (items ++ map f (take (k + 1) xs)) (Some (f x).pid) (map f (drop m xs)))) (sym (add-one k));
     }
 
-pub ordered_none : {X : Type 0} (f : X → Item) (used : Used) (before : Option ℕ) (k : ℕ) (items : List Item) (xs : List X) → IsOrderedSoFar f used before k items xs → length xs ≤ k → None ≡ first_misplaced items None (map f xs)
-ordered_none f used before k items xs h le = sym (h.rest ∙ ap (λ l. option_map (λ n. n + k) (first_misplaced (items ++ map f (take k xs)) before (map f l))) (drop_of_length-le xs le))
+pub ordered_none : {X : Type 0} (f : X → Item) (used : Used) (before : Option ℕ) (k : ℕ) (items : List Item) (xs : List X)
+    → IsOrderedSoFar f used before k items xs → length xs ≤ k → None ≡ first_misplaced items None (map f xs)
+ordered_none f used before k items xs h le = sym (h.rest ∙ ap (λ l. option_map (λ n. n + k) (first_misplaced (items ++ map f (take k xs)) before (map f l)))
+    (drop_of_length-le xs le))
 
-pub ordered_knows : {X : Type 0} (f : X → Item) (used : Used) (before : Option ℕ) (k : ℕ) (items : List Item) (xs : List X) → IsOrderedSoFar f used before k items xs → length xs ≤ k → Knows used (items ++ map f xs)
+pub ordered_knows : {X : Type 0} (f : X → Item) (used : Used) (before : Option ℕ) (k : ℕ) (items : List Item) (xs : List X)
+    → IsOrderedSoFar f used before k items xs → length xs ≤ k → Knows used (items ++ map f xs)
 ordered_knows f used before k items xs h le = subst (λ l. Knows used (items ++ map f l)) (take_all k xs le) h.knows

@@ -3,8 +3,8 @@ mod NamedThings
 mod ReadLists
 mod StatementForms
 mod LineForms
-mod RunFronts
-mod GrowFronts
+mod RunPartials
+mod GrowPartials
 mod PlainWords
 mod LineBytes
 mod FitLines

@@ -19,19 +19,37 @@ words_of_sum [] h = tt
 words_of_sum (n ∷ ns) h = let s : sum (n ∷ ns) ≡ (0 + n) + sum ns = sum_by-append (λ m. m) (n ∷ []) ns in (omega (arith, s), words_of_sum ns (omega (arith, s)))
 
 routine_of : List ℕ → ℕ → ℕ → Bool → ℕ → ℕ → List ℕ → List Block → NamedRoutine
-routine_of name pid params value regs entry arrays blocks = record { name = name; routine = record { pid = pid; params = params; value = value; regs = regs; entry = entry; arrays = arrays; blocks = blocks } }
+routine_of name pid params value regs entry arrays blocks = record {
+  name = name;
+  routine =
+      record { pid = pid; params = params; value = value; regs = regs; entry = entry; arrays = arrays; blocks = blocks };
+}
 
-same_parts : (name name' : List ℕ) (pid pid' params params' : ℕ) (value value' : Bool) (regs regs' entry entry' : ℕ) (arrays arrays' : List ℕ) (blocks blocks' : List Block)
+same_parts : (name name' : List ℕ) (pid pid' params params' : ℕ) (value value' : Bool) (regs regs' entry entry' : ℕ) (arrays arrays' : List ℕ)
+    (blocks blocks' : List Block)
     → name ≡ name' → pid ≡ pid' → params ≡ params' → value ≡ value' → regs ≡ regs' → entry ≡ entry' → arrays ≡ arrays' → blocks ≡ blocks'
     → Some (routine_of name pid params value regs entry arrays blocks) ≡ Some (routine_of name' pid' params' value' regs' entry' arrays' blocks')
 same_parts name name' pid pid' params params' value value' regs regs' entry entry' arrays arrays' blocks blocks' a b c d e f g h = cc
 
 -- a routine is the one that has its parts
 pub routine_told : (name : List ℕ) (pid params : ℕ) (value : Bool) (regs entry : ℕ) (arrays : List ℕ) (blocks : List Block) (x : NamedRoutine)
-    → name ≡ x.name → pid ≡ x.routine.pid → params ≡ x.routine.params → value ≡ x.routine.value → regs ≡ x.routine.regs → entry ≡ x.routine.entry → arrays ≡ x.routine.arrays → blocks ≡ x.routine.blocks
-    → (let r : NamedRoutine = record { name = name; routine = record { pid = pid; params = params; value = value; regs = regs; entry = entry; arrays = arrays; blocks = blocks } } in Some r ≡ Some x)
+    → name ≡ x.name → pid ≡ x.routine.pid → params ≡ x.routine.params → value ≡ x.routine.value → regs ≡ x.routine.regs → entry ≡ x.routine.entry
+    → arrays ≡ x.routine.arrays → blocks ≡ x.routine.blocks
+    → (let r : NamedRoutine = record {
+      name = name;
+      routine = record {
+        pid = pid;
+        params = params;
+        value = value;
+        regs = regs;
+        entry = entry;
+        arrays = arrays;
+        blocks = blocks;
+      };
+    } in Some r ≡ Some x)
 unfolding routine_of
-routine_told name pid params value regs entry arrays blocks x a b c d e f g h = same_parts name x.name pid x.routine.pid params x.routine.params value x.routine.value regs x.routine.regs entry x.routine.entry arrays x.routine.arrays blocks x.routine.blocks a b c d e f g h
+routine_told name pid params value regs entry arrays blocks x a b c d e f g h = same_parts name x.name pid x.routine.pid params x.routine.params value
+    x.routine.value regs x.routine.regs entry x.routine.entry arrays x.routine.arrays blocks x.routine.blocks a b c d e f g h
 
 -- what a label is
 pub record IsLabel (first : List ℕ) (rest : List (List ℕ)) (l : Line) (n : ℕ) : Type 0 where
@@ -40,7 +58,8 @@ pub record IsLabel (first : List ℕ) (rest : List (List ℕ)) (l : Line) (n : �
   pub alone : rest ≡ []
 
 -- a line whose first word is that of no kind is a label
-pub no_kind : (first : List ℕ) (rest : List (List ℕ)) (l : Line) → ((k : Kind) → first ≡ kind_text k → ⊥) → first ∷ rest ≡ line_words l → (n : ℕ) × IsLabel first rest l n
+pub no_kind : (first : List ℕ) (rest : List (List ℕ)) (l : Line) → ((k : Kind) → first ≡ kind_text k → ⊥) → first ∷ rest ≡ line_words l
+    → (n : ℕ) × IsLabel first rest l n
 no_kind first rest First none e = let h : first ≡ codes "hlo-il" = cc e in absurd (none kind.First h)
 no_kind first rest (Object x) none e = let h : first ≡ codes "object" = cc e in absurd (none kind.Object h)
 no_kind first rest (Routine x) none e = let h : first ≡ codes "routine" = cc e in absurd (none kind.Routine h)

@@ -24,11 +24,16 @@ pub joined_more : (p : List ℕ) (ps qs : List (List ℕ)) → join_with_byte 32
 joined_more p [] qs = joined p qs
 joined_more p (q ∷ ps) qs = ap (λ l. p ++ (32 ∷ l)) (joined_more q ps qs) ∙ sym (append_assoc p (32 ∷ join_with_byte 32 (q ∷ ps)) (spaced qs))
 
-call_parts : (dest : Option ℕ) (callee count : ℕ) (args : List ℕ) → indented (gets_if_some dest (codes "call" ∷ decimal callee ∷ codes "count" ∷ decimal count ∷ map reg args)) ≡ (call_head dest callee count ++ spaced (map reg args)) ++ 10 ∷ []
-call_parts None callee count args = ap (λ l. 32 ∷ 32 ∷ (l ++ 10 ∷ [])) (joined_more (codes "call") (decimal callee ∷ codes "count" ∷ decimal count ∷ []) (map reg args))
-call_parts (Some d) callee count args = ap (λ l. 32 ∷ 32 ∷ (l ++ 10 ∷ [])) (joined_more (reg d) (codes "=" ∷ codes "call" ∷ decimal callee ∷ codes "count" ∷ decimal count ∷ []) (map reg args))
+call_parts : (dest : Option ℕ) (callee count : ℕ) (args : List ℕ)
+    → indented (gets_if_some dest (codes "call" ∷ decimal callee ∷ codes "count" ∷ decimal count ∷ map reg args)) ≡
+    (call_head dest callee count ++ spaced (map reg args)) ++ 10 ∷ []
+call_parts None callee count args = ap (λ l. 32 ∷ 32 ∷ (l ++ 10 ∷ []))
+    (joined_more (codes "call") (decimal callee ∷ codes "count" ∷ decimal count ∷ []) (map reg args))
+call_parts (Some d) callee count args = ap (λ l. 32 ∷ 32 ∷ (l ++ 10 ∷ []))
+    (joined_more (reg d) (codes "=" ∷ codes "call" ∷ decimal callee ∷ codes "count" ∷ decimal count ∷ []) (map reg args))
 
-pub call_line : (dest : Option ℕ) (callee count : ℕ) (args old head mid new : List ℕ) → head ≡ old ++ call_head dest callee count → mid ≡ head ++ spaced (map reg args) → new ≡ mid ++ 10 ∷ [] →
+pub call_line : (dest : Option ℕ) (callee count : ℕ) (args old head mid new : List ℕ) → head ≡ old ++ call_head dest callee count
+    → mid ≡ head ++ spaced (map reg args) → new ≡ mid ++ 10 ∷ [] →
     new ≡ old ++ indented (gets_if_some dest (codes "call" ∷ decimal callee ∷ codes "count" ∷ decimal count ∷ map reg args))
 call_line dest callee count args old head mid new e f g =
     g ∙ ap (λ l. l ++ 10 ∷ []) (f ∙ ap (λ l. l ++ spaced (map reg args)) e ∙ append_assoc old (call_head dest callee count) (spaced (map reg args)))
@@ -36,9 +41,11 @@ call_line dest callee count args old head mid new e f g =
 
 routine_line_parts : (name : List ℕ) (r : RoutineParts) → line (routine_parts name r) ≡ (routine_head name r ++ spaced (arrays_parts r.arrays)) ++ 10 ∷ []
 routine_line_parts name r =
-    ap (λ l. l ++ 10 ∷ []) (joined_more (codes "routine") (decimal r.pid ∷ name ∷ codes "params" ∷ decimal r.params ∷ value_name r.value ∷ codes "regs" ∷ decimal r.regs ∷ codes "entry" ∷ decimal r.entry ∷ []) (arrays_parts r.arrays))
+    ap (λ l. l ++ 10 ∷ []) (joined_more (codes "routine") (decimal r.pid ∷ name ∷ codes "params" ∷ decimal r.params ∷ value_name r.value ∷ codes "regs" ∷
+    decimal r.regs ∷ codes "entry" ∷ decimal r.entry ∷ []) (arrays_parts r.arrays))
 
-pub routine_line : (name : List ℕ) (r : RoutineParts) (old head mid new : List ℕ) → head ≡ old ++ routine_head name r → mid ≡ head ++ spaced (arrays_parts r.arrays) → new ≡ mid ++ 10 ∷ [] → new ≡ old ++ line (routine_parts name r)
+pub routine_line : (name : List ℕ) (r : RoutineParts) (old head mid new : List ℕ) → head ≡ old ++ routine_head name r
+    → mid ≡ head ++ spaced (arrays_parts r.arrays) → new ≡ mid ++ 10 ∷ [] → new ≡ old ++ line (routine_parts name r)
 routine_line name r old head mid new e f g =
     g ∙ ap (λ l. l ++ 10 ∷ []) (f ∙ ap (λ l. l ++ spaced (arrays_parts r.arrays)) e ∙ append_assoc old (routine_head name r) (spaced (arrays_parts r.arrays)))
     ∙ append_assoc old (routine_head name r ++ spaced (arrays_parts r.arrays)) (10 ∷ []) ∙ ap (λ l. old ++ l) (sym (routine_line_parts name r))
@@ -46,7 +53,8 @@ routine_line name r old head mid new e f g =
 object_line_parts : (name : List ℕ) (o : ObjectParts) → line (object_parts name o) ≡ (object_head name o ++ spaced (init_parts o.init)) ++ 10 ∷ []
 object_line_parts name o = ap (λ l. l ++ 10 ∷ []) (joined_more (codes "object") (decimal o.pid ∷ name ∷ decimal o.words ∷ []) (init_parts o.init))
 
-pub object_line : (name : List ℕ) (o : ObjectParts) (old head mid new : List ℕ) → head ≡ old ++ object_head name o → mid ≡ head ++ spaced (init_parts o.init) → new ≡ mid ++ 10 ∷ [] → new ≡ old ++ line (object_parts name o)
+pub object_line : (name : List ℕ) (o : ObjectParts) (old head mid new : List ℕ) → head ≡ old ++ object_head name o → mid ≡ head ++ spaced (init_parts o.init)
+    → new ≡ mid ++ 10 ∷ [] → new ≡ old ++ line (object_parts name o)
 object_line name o old head mid new e f g =
     g ∙ ap (λ l. l ++ 10 ∷ []) (f ∙ ap (λ l. l ++ spaced (init_parts o.init)) e ∙ append_assoc old (object_head name o) (spaced (init_parts o.init)))
     ∙ append_assoc old (object_head name o ++ spaced (init_parts o.init)) (10 ∷ []) ∙ ap (λ l. old ++ l) (sym (object_line_parts name o))

@@ -1,5 +1,6 @@
 -- Looking up a name in a list.
-use Rattle.std.proofs.Common.{ℕ, ◌≡◌, ◌<◌, ◌+◌, ◌≤◌, refl, sym, ap, ◌∙◌, true, false, if◌then◌else◌, List, [], ◌∷◌, length, drop, get_or, Option, Some, None, inl, inr, nat_eq, IfSome}
+use Rattle.std.proofs.Common.{ℕ, ◌≡◌, ◌<◌, ◌+◌, ◌≤◌, refl, sym, ap, ◌∙◌, true, false, if◌then◌else◌, List, [], ◌∷◌, length, drop, get_or, Option, Some}
+use Rattle.std.proofs.Common.{None, inl, inr, nat_eq, IfSome}
 use Rattle.std.specs.Cmp.Lexicographic.{pointwise}
 use Rattle.std.proofs.Math.Seq.{drop-cons}
 use Rattle.std.proofs.Math.Numerals.{add-one}
@@ -7,16 +8,21 @@ use Rattle.std.proofs.Math.ListN.{drop_of_length-le}
 use Rattle.std.proofs.lemmas.Bool.{cases_Bool, eqb-true, and_parts}
 use Rattle.hlo_num.specs.declared.word.Op.TheVariants as op
 use Rattle.il_text.specs.declared.mnemonic.Mnemonic.{Mnemonic}
-use Rattle.il_text.specs.declared.mnemonic.Mnemonic.TheVariants.{Const, Move, Conv, Bin, Get, Set, GetX, SetX, GetA, SetA, Clear, Turn, Call, GetChar, PutChar, Jump, Branch, Loop, Return, Exit}
+use Rattle.il_text.specs.declared.mnemonic.Mnemonic.TheVariants.{Const, Move, Conv, Bin, Get, Set, GetX, SetX, GetA, SetA, Clear, Turn, Call, GetChar}
+use Rattle.il_text.specs.declared.mnemonic.Mnemonic.TheVariants.{PutChar, Jump, Branch, Loop, Return, Exit}
 use Rattle.il_text.specs.Mnemonics.{named, mnemonic_text, mnemonics, mnemonic_named}
 
-named_at : {A : Type 0} (f : A → List ℕ) (xs : List A) (us : List ℕ) (i : ℕ) (d : A) → i < length xs → named f (drop i xs) us ≡ (if pointwise nat_eq us (f (get_or xs i d)) then Some (get_or xs i d) else named f (drop (i + 1) xs) us)
-named_at f xs us i d h = ap (λ z. named f z us) (drop-cons xs i d h) ∙ ap (λ n. if pointwise nat_eq us (f (get_or xs i d)) then Some (get_or xs i d) else named f (drop n xs) us) (sym (add-one i))
+named_at : {A : Type 0} (f : A → List ℕ) (xs : List A) (us : List ℕ) (i : ℕ) (d : A) → i < length xs
+    → named f (drop i xs) us ≡ (if pointwise nat_eq us (f (get_or xs i d)) then Some (get_or xs i d) else named f (drop (i + 1) xs) us)
+named_at f xs us i d h = ap (λ z. named f z us) (drop-cons xs i d h) ∙ ap
+    (λ n. if pointwise nat_eq us (f (get_or xs i d)) then Some (get_or xs i d) else named f (drop n xs) us) (sym (add-one i))
 
-pub named_here : {A : Type 0} (f : A → List ℕ) (xs : List A) (us : List ℕ) (i : ℕ) (d : A) → i < length xs → pointwise nat_eq us (f (get_or xs i d)) ≡ true → named f (drop i xs) us ≡ Some (get_or xs i d)
+pub named_here : {A : Type 0} (f : A → List ℕ) (xs : List A) (us : List ℕ) (i : ℕ) (d : A) → i < length xs → pointwise nat_eq us (f (get_or xs i d)) ≡ true
+    → named f (drop i xs) us ≡ Some (get_or xs i d)
 named_here f xs us i d h e = named_at f xs us i d h ∙ rw e refl
 
-pub named_next : {A : Type 0} (f : A → List ℕ) (xs : List A) (us : List ℕ) (i : ℕ) (d : A) → i < length xs → pointwise nat_eq us (f (get_or xs i d)) ≡ false → named f (drop i xs) us ≡ named f (drop (i + 1) xs) us
+pub named_next : {A : Type 0} (f : A → List ℕ) (xs : List A) (us : List ℕ) (i : ℕ) (d : A) → i < length xs → pointwise nat_eq us (f (get_or xs i d)) ≡ false
+    → named f (drop i xs) us ≡ named f (drop (i + 1) xs) us
 named_next f xs us i d h e = named_at f xs us i d h ∙ rw e refl
 
 pub named_none : {A : Type 0} (f : A → List ℕ) (xs : List A) (us : List ℕ) (i : ℕ) → length xs ≤ i → named f (drop i xs) us ≡ None
@@ -26,7 +32,8 @@ equal : (us vs : List ℕ) → pointwise nat_eq us vs ≡ true → us ≡ vs
 equal [] [] e = refl
 equal [] (v ∷ vs) e = absurd cc
 equal (u ∷ us) [] e = absurd cc
-equal (u ∷ us) (v ∷ vs) e = let h = and_parts (nat_eq u v) (pointwise nat_eq us vs) e in let a : u ≡ v = eqb-true u v h.0 in let b : us ≡ vs = equal us vs h.1 in cc
+equal (u ∷ us) (v ∷ vs) e = let h = and_parts (nat_eq u v) (pointwise nat_eq us vs) e in let a : u ≡ v = eqb-true u v h.0 in let b : us ≡ vs = equal us vs h.1
+    in cc
 
 named_has : {A : Type 0} (f : A → List ℕ) (xs : List A) (us : List ℕ) (a : A) → named f xs us ≡ Some a → us ≡ f a
 named_has f [] us a e = absurd cc

@@ -28,7 +28,7 @@ use Rattle.il_text.specs.Lines.{IsFitLine, IsFitStatement, line_words, statement
 use Rattle.il_text.specs.Mnemonics.{mnemonic_text}
 use Rattle.il_text.specs.Parts.{dest_of, name_of, operands_of}
 use Rattle.text_lines.proofs.Decimals.{without_sign, with_sign}
-use Rattle.text_lines.proofs.Plain.{IsPlain, ArePlain, decimal_plain, lettered_plain, all_plain, name_plain, append_plain}
+use Rattle.text_lines.proofs.Spaceless.{IsPlain, ArePlain, decimal_plain, lettered_plain, all_plain, name_plain, append_plain}
 use Rattle.il_text.proofs.LineForms.{words_of_sum}
 use Rattle.il_text.proofs.StatementForms.{by_parts, dest_fits}
 
@@ -125,9 +125,13 @@ operands_plain (statement.Instr (instr.GetX d g i)) h = (global_plain g h.0, (re
 operands_plain (statement.Instr (instr.SetX g i s)) h = (global_plain g h.0, (reg_plain i h.1.1.0, (reg_plain s h.1.1.1.0, tt)))
 operands_plain (statement.Instr (instr.GetA d a i)) h = (array_plain a h.1.1.0, (reg_plain i h.1.1.1.0, tt))
 operands_plain (statement.Instr (instr.SetA a i s)) h = (array_plain a h.1.0, (reg_plain i h.1.1.0, (reg_plain s h.1.1.1.0, tt)))
-operands_plain (statement.Instr (instr.Clear r c a m)) h = (reg_plain r h.1.0, (decimal_plain c h.1.1.0, (array_plain a h.1.1.1.0, (decimal_plain m h.1.1.1.1.0, tt))))
+operands_plain (statement.Instr (instr.Clear r c a m)) h = (
+  reg_plain r h.1.0,
+  (decimal_plain c h.1.1.0, (array_plain a h.1.1.1.0, (decimal_plain m h.1.1.1.1.0, tt))),
+)
 operands_plain (statement.Instr instr.Turn) h = tt
-operands_plain (statement.Instr (instr.Call dest p n args)) h = let r = call_range dest p n args h.1 in (decimal_plain p (omega (arith, h.0.0)), (refl, (decimal_plain n r.0, all_plain reg (λ m. m < 2 ^ 32) reg_plain args r.1)))
+operands_plain (statement.Instr (instr.Call dest p n args)) h = let r = call_range dest p n args h.1
+    in (decimal_plain p (omega (arith, h.0.0)), (refl, (decimal_plain n r.0, all_plain reg (λ m. m < 2 ^ 32) reg_plain args r.1)))
 operands_plain (statement.Instr (instr.GetChar d)) h = tt
 operands_plain (statement.Instr (instr.PutChar d s)) h = (reg_plain s h.1.1.0, tt)
 operands_plain (statement.End (ends.Jump t)) h = (block_plain t h.0, tt)
@@ -138,7 +142,8 @@ operands_plain (statement.End (ends.Return (Some r))) h = (reg_plain r h.0, tt)
 operands_plain (statement.End (ends.Exit r)) h = (reg_plain r h.0, tt)
 
 statement_plain : (s : Statement) → IsFitStatement s → ArePlain (statement_parts s)
-statement_plain s h = subst ArePlain (sym (by_parts s)) (dest_plain (dest_of s) (mnemonic_text (name_of s) ∷ operands_of s) (dest_fits s h) (mnemonic_plain (name_of s), operands_plain s h))
+statement_plain s h = subst ArePlain (sym (by_parts s)) (dest_plain (dest_of s) (mnemonic_text (name_of s) ∷ operands_of s) (dest_fits s h)
+    (mnemonic_plain (name_of s), operands_plain s h))
 
 init_plain : (ws : List Word) → AreConstants ws → ArePlain (init_parts ws)
 init_plain [] h = tt
@@ -155,7 +160,13 @@ value_plain false = refl
 -- the words of a line that fits are plain
 pub line_plain : (l : Line) → IsFitLine l → ArePlain (line_words l)
 line_plain First h = (refl, (refl, tt))
-line_plain (Object o) h = (refl, (decimal_plain o.object.pid (omega (arith, h.pid)), (name_plain o.name h.name.1, (decimal_plain o.object.words h.words, init_plain o.object.init h.init))))
+line_plain (Object o) h = (
+  refl,
+  (
+    decimal_plain o.object.pid (omega (arith, h.pid)),
+    (name_plain o.name h.name.1, (decimal_plain o.object.words h.words, init_plain o.object.init h.init)),
+  ),
+)
 line_plain (Routine r) h = (
   refl,
   (
@@ -168,7 +179,13 @@ line_plain (Routine r) h = (
           decimal_plain r.routine.params (omega (arith, h.limits.params)),
           (
             value_plain r.routine.value,
-            (refl, (decimal_plain r.routine.regs (omega (arith, h.limits.regs)), (refl, (decimal_plain r.routine.entry h.entry, arrays_plain r.routine.arrays (words_of_sum r.routine.arrays h.limits.elements))))),
+            (
+              refl,
+              (
+                decimal_plain r.routine.regs (omega (arith, h.limits.regs)),
+                (refl, (decimal_plain r.routine.entry h.entry, arrays_plain r.routine.arrays (words_of_sum r.routine.arrays h.limits.elements))),
+              ),
+            ),
           ),
         ),
       ),

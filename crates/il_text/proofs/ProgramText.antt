@@ -10,7 +10,7 @@ use Rattle.il_core.specs.declared.program.IlProgram.{IlProgram}
 use Rattle.il_core.specs.Object.{ObjectParts}
 use Rattle.il_core.specs.Program.{name_at, name_of_row}
 use Rattle.il_core.specs.Text as text
-use Rattle.il_text.specs.declared.front.Place.TheVariants.{Done}
+use Rattle.il_text.specs.declared.partial.Place.TheVariants.{Done}
 use Rattle.il_text.specs.declared.line.Line.{Line}
 use Rattle.il_text.specs.declared.line.Line.TheVariants as line
 use Rattle.il_text.specs.declared.line.NamedObject.{NamedObject}
@@ -18,7 +18,7 @@ use Rattle.il_text.specs.declared.line.NamedRoutine.{NamedRoutine}
 use Rattle.il_text.specs.declared.statement.Statement.{Statement}
 use Rattle.il_text.specs.declared.statement.Statement.TheVariants as statement
 use Rattle.il_text.specs.Assembled.{object_row, routine_row, HasPartsOf}
-use Rattle.il_text.specs.Fronts.{block_lines, blocks_lines, open_lines, routine_lines, inner_lines, lines_of}
+use Rattle.il_text.specs.Partials.{block_lines, blocks_lines, open_lines, routine_lines, inner_lines, lines_of}
 use Rattle.il_text.specs.Lines.{statement_parts}
 use Rattle.il_text.specs.Mnemonics.{mnemonic_text}
 use Rattle.il_text.specs.Parts.{dest_of, name_of, operands_of}
@@ -41,19 +41,23 @@ inside_text s = subst (λ ps. bytes_of ps ≡ text.indented ps) (sym (by_parts s
 
 instrs_text : (is : List Instr) → lines_text (map (λ i. line.Inside (statement.Instr i)) is) ≡ flat_map (λ i. text.indented (text.instr_parts i)) is
 instrs_text [] = refl
-instrs_text (i ∷ is) = ap (λ bs. bs ++ lines_text (map (λ j. line.Inside (statement.Instr j)) is)) (inside_text (statement.Instr i)) ∙ ap (λ bs. text.indented (text.instr_parts i) ++ bs) (instrs_text is)
+instrs_text (i ∷ is) = ap (λ bs. bs ++ lines_text (map (λ j. line.Inside (statement.Instr j)) is)) (inside_text (statement.Instr i)) ∙ ap
+    (λ bs. text.indented (text.instr_parts i) ++ bs) (instrs_text is)
 
 block_text : (b : ℕ) (x : Block) → lines_text (block_lines b x) ≡ text.block_text b x
 block_text b x =
     ap (λ bs. text.line ((text.block b ++ 58 ∷ []) ∷ []) ++ bs)
     (text_append (map (λ i. line.Inside (statement.Instr i)) x.instrs) (line.Inside (statement.End x.end) ∷ [])
     ∙ ap (λ bs. bs ++ lines_text (line.Inside (statement.End x.end) ∷ [])) (instrs_text x.instrs)
-    ∙ ap (λ bs. flat_map (λ i. text.indented (text.instr_parts i)) x.instrs ++ bs) (append-nil (bytes_of (text.end_parts x.end)) ∙ inside_text (statement.End x.end)))
-    ∙ sym (append_assoc (text.line ((text.block b ++ 58 ∷ []) ∷ [])) (flat_map (λ i. text.indented (text.instr_parts i)) x.instrs) (text.indented (text.end_parts x.end)))
+    ∙ ap (λ bs. flat_map (λ i. text.indented (text.instr_parts i)) x.instrs ++ bs)
+    (append-nil (bytes_of (text.end_parts x.end)) ∙ inside_text (statement.End x.end)))
+    ∙ sym (append_assoc (text.line ((text.block b ++ 58 ∷ []) ∷ [])) (flat_map (λ i. text.indented (text.instr_parts i)) x.instrs)
+    (text.indented (text.end_parts x.end)))
 
 blocks_text : (b : ℕ) (xs : List Block) → lines_text (blocks_lines b xs) ≡ text.blocks_text b xs
 blocks_text b [] = refl
-blocks_text b (x ∷ xs) = text_append (block_lines b x) (blocks_lines (b + 1) xs) ∙ ap (λ bs. bs ++ lines_text (blocks_lines (b + 1) xs)) (block_text b x) ∙ ap (λ bs. text.block_text b x ++ bs) (blocks_text (b + 1) xs)
+blocks_text b (x ∷ xs) = text_append (block_lines b x) (blocks_lines (b + 1) xs) ∙ ap (λ bs. bs ++ lines_text (blocks_lines (b + 1) xs)) (block_text b x) ∙ ap
+    (λ bs. text.block_text b x ++ bs) (blocks_text (b + 1) xs)
 
 pub routine_text : (r : NamedRoutine) → lines_text (routine_lines r) ≡ text.routine_text r.name r.routine
 routine_text r =
@@ -72,7 +76,8 @@ objects_text : (rows : List ShapeRow) (os : List NamedObject) → Rising rows �
 objects_text rows [] h k = refl
 objects_text rows (o ∷ os) h k =
     ap (λ bs. text.line (text.object_parts o.name o.object) ++ bs) (objects_text rows os h k.1)
-    ∙ ap (λ name. text.line (text.object_parts name o.object) ++ flat_map (λ (x : ObjectParts). text.line (text.object_parts (name_at rows x.pid) x)) (map (λ x. x.object) os)) (sym (object_named rows o h k.0))
+    ∙ ap (λ name. text.line (text.object_parts name o.object) ++ flat_map (λ (x : ObjectParts). text.line (text.object_parts (name_at rows x.pid) x))
+    (map (λ x. x.object) os)) (sym (object_named rows o h k.0))
 
 routines_text : (rows : List ShapeRow) (rs : List NamedRoutine) → Rising rows → AllByRecursion (λ r. Contains rows (routine_row r)) rs
     → lines_text (flat_map routine_lines rs) ≡ text.routines_text rows (map (λ r. r.routine) rs)
@@ -83,7 +88,8 @@ routines_text rows (r ∷ rs) h k =
     ∙ ap (λ bs. text.routine_text r.name r.routine ++ bs) (routines_text rows rs h k.1)
     ∙ ap (λ name. text.routine_text name r.routine ++ text.routines_text rows (map (λ x. x.routine) rs)) (sym (routine_named rows r h k.0))
 
-whole : (rows : List ShapeRow) (os : List NamedObject) (rs : List NamedRoutine) → Rising rows → AllByRecursion (λ o. Contains rows (object_row o)) os → AllByRecursion (λ r. Contains rows (routine_row r)) rs
+whole : (rows : List ShapeRow) (os : List NamedObject) (rs : List NamedRoutine) → Rising rows → AllByRecursion (λ o. Contains rows (object_row o)) os
+    → AllByRecursion (λ r. Contains rows (routine_row r)) rs
     → lines_text (lines_of Done os rs) ≡ text.head_text rows (map (λ o. o.object) os) ++ text.routines_text rows (map (λ r. r.routine) rs) ++ text.done_text
 whole rows os rs h a b =
     let first : List ℕ = text.line (codes "hlo-il" ∷ codes "1" ∷ []) in

@@ -1,5 +1,6 @@
 -- What was read and is in order, as a program.
-use Rattle.std.proofs.Common.{◌≡◌, ℕ, suc, ◌<◌, ◌≤◌, true, false, List, [], ◌∷◌, ◌++◌, Some, None, length, map, refl, sym, ◌∙◌, ap, subst, length-append, arith, inl, inr}
+use Rattle.std.proofs.Common.{◌≡◌, ℕ, suc, ◌<◌, ◌≤◌, true, false, List, [], ◌∷◌, ◌++◌, Some, None, length, map, refl, sym, ◌∙◌, ap, subst}
+use Rattle.std.proofs.Common.{length-append, arith, inl, inr}
 use Rattle.std.specs.Prelude.{Contains, codes, ◌&&◌, not, nat_lt, ◌==◌}
 use Rattle.std.specs.List.{AllByRecursion, list_any}
 use Rattle.std.specs.List.Sorted.{IsPermutation}
@@ -22,10 +23,10 @@ use Rattle.il_text.specs.declared.line.NamedObject.{NamedObject}
 use Rattle.il_text.specs.declared.line.NamedRoutine.{NamedRoutine}
 use Rattle.il_text.specs.Assembled.{object_row, routine_row, all_rows, first_out_of_order, HasPartsOf}
 use Rattle.il_text.specs.Checked.{is_main, is_main_shape}
-use Rattle.il_text.specs.declared.front.Front.{Front}
-use Rattle.il_text.specs.declared.front.Place.{Place}
-use Rattle.il_text.specs.declared.front.Place.TheVariants.{Done}
-use Rattle.il_text.specs.FitFronts.{IsFitRoutine, IsFitFront, IsRoomAt}
+use Rattle.il_text.specs.declared.partial.Partial.{Partial}
+use Rattle.il_text.specs.declared.partial.Place.{Place}
+use Rattle.il_text.specs.declared.partial.Place.TheVariants.{Done}
+use Rattle.il_text.specs.FitPartials.{IsFitRoutine, IsFitPartial, IsRoomAt}
 use Rattle.il_text.specs.Lines.{IsFitObject}
 use Rattle.il_text.specs.Order.{Item, object_items, routine_items, has_pid, has_name, first_misplaced}
 use Rattle.il_text.proofs.Counts.{placed_head, object_part, rows_names_once, each_moved, same_bytes}
@@ -34,15 +35,20 @@ pub contains_head : (x : ShapeRow) (xs : List ShapeRow) → Contains (x ∷ xs) 
 contains_head x xs = (0, omega arith, refl)
 
 -- each of a list has its row among these
-contained : {X : Type 0} (f : X → ShapeRow) (rows : List ShapeRow) (xs : List X) → ((r : ShapeRow) → Contains (map f xs) r → Contains rows r) → AllByRecursion (λ x. Contains rows (f x)) xs
+contained : {X : Type 0} (f : X → ShapeRow) (rows : List ShapeRow) (xs : List X) → ((r : ShapeRow) → Contains (map f xs) r → Contains rows r)
+    → AllByRecursion (λ x. Contains rows (f x)) xs
 contained f rows [] h = tt
 contained f rows (x ∷ xs) h = (h (f x) (contains_head (f x) (map f xs)), contained f rows xs (λ r c. h r (Contains-append_right (f x ∷ []) (map f xs) r c)))
 
-pub object_rows_in : (os : List NamedObject) (rs : List NamedRoutine) (rows : List ShapeRow) → IsPermutation (all_rows os rs) rows → AllByRecursion (λ o. Contains rows (object_row o)) os
-object_rows_in os rs rows h = contained object_row rows os (λ r c. Contains-permutation (all_rows os rs) rows r h (Contains-append_left (map object_row os) (map routine_row rs) r c))
+pub object_rows_in : (os : List NamedObject) (rs : List NamedRoutine) (rows : List ShapeRow) → IsPermutation (all_rows os rs) rows
+    → AllByRecursion (λ o. Contains rows (object_row o)) os
+object_rows_in os rs rows h = contained object_row rows os (λ r c. Contains-permutation (all_rows os rs) rows r h
+    (Contains-append_left (map object_row os) (map routine_row rs) r c))
 
-pub routine_rows_in : (os : List NamedObject) (rs : List NamedRoutine) (rows : List ShapeRow) → IsPermutation (all_rows os rs) rows → AllByRecursion (λ r. Contains rows (routine_row r)) rs
-routine_rows_in os rs rows h = contained routine_row rows rs (λ r c. Contains-permutation (all_rows os rs) rows r h (Contains-append_right (map object_row os) (map routine_row rs) r c))
+pub routine_rows_in : (os : List NamedObject) (rs : List NamedRoutine) (rows : List ShapeRow) → IsPermutation (all_rows os rs) rows
+    → AllByRecursion (λ r. Contains rows (routine_row r)) rs
+routine_rows_in os rs rows h = contained routine_row rows rs (λ r c. Contains-permutation (all_rows os rs) rows r h
+    (Contains-append_right (map object_row os) (map routine_row rs) r c))
 
 abbrev pub Rising : List ShapeRow → Type 0
 Rising rows = IsRising (λ row. row.pid) rows
@@ -51,11 +57,13 @@ Rising rows = IsRising (λ row. row.pid) rows
 pub row_found : (rows : List ShapeRow) (r : ShapeRow) → Rising rows → Contains rows r → found (λ row. row.pid) r.pid rows ≡ Some r
 row_found rows r h c = is_there r.pid c.0 rows r h c.1 (sym c.2) refl
 
-object_shapes : (rows : List ShapeRow) (os : List NamedObject) → Rising rows → AllByRecursion (λ o. Contains rows (object_row o)) os → AllByRecursion (λ (o : ObjectParts). shape_at rows o.pid ≡ Some (shape.Object o.words)) (map (λ o. o.object) os)
+object_shapes : (rows : List ShapeRow) (os : List NamedObject) → Rising rows → AllByRecursion (λ o. Contains rows (object_row o)) os
+    → AllByRecursion (λ (o : ObjectParts). shape_at rows o.pid ≡ Some (shape.Object o.words)) (map (λ o. o.object) os)
 object_shapes rows [] h k = tt
 object_shapes rows (o ∷ os) h k = (ap shape_of_row (row_found rows (object_row o) h k.0), object_shapes rows os h k.1)
 
-routine_shapes : (rows : List ShapeRow) (rs : List NamedRoutine) → Rising rows → AllByRecursion (λ r. Contains rows (routine_row r)) rs → AllByRecursion (λ (r : RoutineParts). shape_at rows r.pid ≡ Some (shape.Routine r.params r.value)) (map (λ r. r.routine) rs)
+routine_shapes : (rows : List ShapeRow) (rs : List NamedRoutine) → Rising rows → AllByRecursion (λ r. Contains rows (routine_row r)) rs
+    → AllByRecursion (λ (r : RoutineParts). shape_at rows r.pid ≡ Some (shape.Routine r.params r.value)) (map (λ r. r.routine) rs)
 routine_shapes rows [] h k = tt
 routine_shapes rows (r ∷ rs) h k = (ap shape_of_row (row_found rows (routine_row r) h k.0), routine_shapes rows rs h k.1)
 
@@ -74,7 +82,8 @@ rise : (used : List Item) (xs : List Item) → first_misplaced used None xs ≡ 
 rise used [] e = tt
 rise used (x ∷ xs) e = rise_from (used ++ x ∷ []) x.pid xs (placed_head used None x xs e).1
 
-objects_from : (b : ℕ) (os : List NamedObject) → IsRisingFrom (λ (y : Item). y.pid) b (object_items os) → IsRisingFrom (λ (o : ObjectParts). o.pid) b (map (λ o. o.object) os)
+objects_from : (b : ℕ) (os : List NamedObject) → IsRisingFrom (λ (y : Item). y.pid) b (object_items os)
+    → IsRisingFrom (λ (o : ObjectParts). o.pid) b (map (λ o. o.object) os)
 objects_from b [] h = tt
 objects_from b (o ∷ os) h = (h.0, objects_from o.object.pid os h.1)
 
@@ -82,7 +91,8 @@ objects_rise : (os : List NamedObject) → IsRising (λ (y : Item). y.pid) (obje
 objects_rise [] h = tt
 objects_rise (o ∷ os) h = objects_from o.object.pid os h
 
-routines_from : (b : ℕ) (rs : List NamedRoutine) → IsRisingFrom (λ (y : Item). y.pid) b (routine_items rs) → IsRisingFrom (λ (r : RoutineParts). r.pid) b (map (λ r. r.routine) rs)
+routines_from : (b : ℕ) (rs : List NamedRoutine) → IsRisingFrom (λ (y : Item). y.pid) b (routine_items rs)
+    → IsRisingFrom (λ (r : RoutineParts). r.pid) b (map (λ r. r.routine) rs)
 routines_from b [] h = tt
 routines_from b (r ∷ rs) h = (h.0, routines_from r.routine.pid rs h.1)
 
@@ -98,7 +108,8 @@ routine_pids : (rs : List NamedRoutine) → AllByRecursion IsFitRoutine rs → A
 routine_pids [] h = tt
 routine_pids (r ∷ rs) h = (ap not (lt-ltb r.routine.pid max_pids h.0.limits.pid), routine_pids rs h.1)
 
-are_pids : (rows : List ShapeRow) → AllByRecursion (λ (r : ShapeRow). not (nat_lt r.pid max_pids) ≡ false) rows → AllByRecursion (λ (r : ShapeRow). IsPid r.pid) rows
+are_pids : (rows : List ShapeRow) → AllByRecursion (λ (r : ShapeRow). not (nat_lt r.pid max_pids) ≡ false) rows
+    → AllByRecursion (λ (r : ShapeRow). IsPid r.pid) rows
 are_pids [] h = tt
 are_pids (r ∷ rows) h = (ltb-true r.pid max_pids (not-false (nat_lt r.pid max_pids) h.0), are_pids rows h.1)
 
@@ -111,17 +122,20 @@ HasMain rows = (row : ShapeRow) × Contains rows row × (row.name ≡ codes "mai
 
 main_shape : (s : Shape) → is_main_shape s ≡ true → s ≡ shape.Routine 0 true
 main_shape (shape.Object words) e = absurd cc
-main_shape (shape.Routine params value) e = let h = and_parts (params == 0) value e in let a = eqb-true params 0 h.0 in ap (λ n. shape.Routine n value) a ∙ ap (λ v. shape.Routine 0 v) h.1
+main_shape (shape.Routine params value) e = let h = and_parts (params == 0) value e in let a = eqb-true params 0 h.0 in ap (λ n. shape.Routine n value) a ∙ ap
+    (λ v. shape.Routine 0 v) h.1
 
 pub main_found : (rows : List ShapeRow) → list_any is_main rows ≡ true → HasMain rows
 main_found [] e = absurd cc
 main_found (r ∷ rows) e = elim (cases_Bool (is_main r)) [
-  | inl is ↦ let h = and_parts (bytes_eq r.name (codes "main")) (is_main_shape r.shape) is in (r, contains_head r rows, same_bytes r.name (codes "main") h.0, main_shape r.shape h.1)
+  | inl is ↦ let h = and_parts (bytes_eq r.name (codes "main")) (is_main_shape r.shape) is
+      in (r, contains_head r rows, same_bytes r.name (codes "main") h.0, main_shape r.shape h.1)
   | inr misses ↦ let m = main_found rows (rw misses at e) in (m.0, Contains-append_right (r ∷ []) rows m.0 m.1, m.2, m.3)
 ]
 
 -- a valid program
-pub is_program : (os : List NamedObject) (rs : List NamedRoutine) (p : IlProgram) → AllByRecursion IsFitObject os → AllByRecursion IsFitRoutine rs → length rs ≤ max_routines → first_out_of_order os rs ≡ None → HasPartsOf os rs p
+pub is_program : (os : List NamedObject) (rs : List NamedRoutine) (p : IlProgram) → AllByRecursion IsFitObject os → AllByRecursion IsFitRoutine rs
+    → length rs ≤ max_routines → first_out_of_order os rs ≡ None → HasPartsOf os rs p
     → AllByRecursion (IsValid p.shapes) p.routines → list_any is_main p.shapes ≡ true → IsProgram p
 is_program os rs p a b few e h valid main =
     let part = object_part os rs e in
@@ -136,8 +150,10 @@ is_program os rs p a b few e h valid main =
       rows = h.rising;
       shapes = record {
         count = omega (arith, len, lens, lens', objects, routines);
-        objects = subst (AllByRecursion (λ (o : ObjectParts). shape_at p.shapes o.pid ≡ Some (shape.Object o.words))) (sym h.objects) (object_shapes p.shapes os h.rising (object_rows_in os rs p.shapes h.rows));
-        routines = subst (AllByRecursion (λ (r : RoutineParts). shape_at p.shapes r.pid ≡ Some (shape.Routine r.params r.value))) (sym h.routines) (routine_shapes p.shapes rs h.rising (routine_rows_in os rs p.shapes h.rows));
+        objects = subst (AllByRecursion (λ (o : ObjectParts). shape_at p.shapes o.pid ≡ Some (shape.Object o.words))) (sym h.objects)
+            (object_shapes p.shapes os h.rising (object_rows_in os rs p.shapes h.rows));
+        routines = subst (AllByRecursion (λ (r : RoutineParts). shape_at p.shapes r.pid ≡ Some (shape.Routine r.params r.value))) (sym h.routines)
+            (routine_shapes p.shapes rs h.rising (routine_rows_in os rs p.shapes h.rows));
       };
       names = rows_names_once os rs p.shapes e h.rows;
       few = omega (arith, routines, few);
@@ -150,5 +166,5 @@ is_program os rs p a b few e h valid main =
 room_at : (p : Place) (os : List NamedObject) (rs : List NamedRoutine) → p ≡ Done → IsRoomAt p os rs → length rs ≤ max_routines
 room_at p os rs e h = subst (λ q. IsRoomAt q os rs) e h
 
-pub done_room : (f : Front) → IsFitFront f → f.place ≡ Done → length f.routines ≤ max_routines
+pub done_room : (f : Partial) → IsFitPartial f → f.place ≡ Done → length f.routines ≤ max_routines
 done_room f h e = room_at f.place f.objects f.routines e h.room

@@ -1,5 +1,6 @@
 -- Lists that are read item by item.
-use Rattle.std.proofs.Common.{◌≡◌, ℕ, ◌+◌, ◌<◌, ◌≤◌, List, [], ◌∷◌, ◌++◌, length, map, refl, sym, ◌∙◌, ap, subst, append-nil, append_assoc, length-append, sum, arith}
+use Rattle.std.proofs.Common.{◌≡◌, ℕ, ◌+◌, ◌<◌, ◌≤◌, List, [], ◌∷◌, ◌++◌, length, map, refl, sym, ◌∙◌, ap, subst, append-nil, append_assoc}
+use Rattle.std.proofs.Common.{length-append, sum, arith}
 use Rattle.std.specs.Prelude.{◌==◌}
 use Rattle.std.proofs.lemmas.List.Sums.{sum_by-append}
 use Rattle.hlo_num.specs.declared.word.Word.{Word}
@@ -28,12 +29,14 @@ map_push spell [] x ws = refl
 map_push spell (y ∷ xs) x ws = ap (λ l. spell y ∷ l) (map_push spell xs x ws)
 
 -- of what is left, the next item and more
-goes_on : {X : Type 0} (spell : X → List ℕ) (fits : X → Type 0) (left behind : List (List ℕ)) (x : X) (zs : List X) → left ≡ spell x ∷ behind → IsNext spell fits left x behind → AllByRecursion fits zs → left ≡ map spell zs
+goes_on : {X : Type 0} (spell : X → List ℕ) (fits : X → Type 0) (left behind : List (List ℕ)) (x : X) (zs : List X) → left ≡ spell x ∷ behind
+    → IsNext spell fits left x behind → AllByRecursion fits zs → left ≡ map spell zs
     → (us : List X) × (zs ≡ x ∷ us) × AllByRecursion fits us × (behind ≡ map spell us)
 goes_on spell fits left behind x [] e next h k = let none : spell x ∷ behind ≡ [] = sym e ∙ k in absurd cc
 goes_on spell fits left behind x (z ∷ zs) e next h k = let r = next z (map spell zs) h.0 k in (zs, ap (λ y. y ∷ zs) (sym r.0), h.1, r.1)
 
-pub one_more : {X : Type 0} (spell : X → List ℕ) (fits : X → Type 0) (whole left behind : List (List ℕ)) (xs ys : List X) (x : X) → IsReadSoFar spell fits whole left xs → fits x → left ≡ spell x ∷ behind → IsNext spell fits left x behind → ys ≡ xs ++ x ∷ []
+pub one_more : {X : Type 0} (spell : X → List ℕ) (fits : X → Type 0) (whole left behind : List (List ℕ)) (xs ys : List X) (x : X)
+    → IsReadSoFar spell fits whole left xs → fits x → left ≡ spell x ∷ behind → IsNext spell fits left x behind → ys ≡ xs ++ x ∷ []
     → IsReadSoFar spell fits whole behind ys
 one_more {X} spell fits whole left behind xs ys x h k e next push = subst (IsReadSoFar spell fits whole behind) (sym push) (record {
   so_far = h.so_far ∙ ap (λ l. map spell xs ++ l) e ∙ map_push spell xs x behind;
@@ -44,14 +47,16 @@ one_more {X} spell fits whole left behind xs ys x h k e next push = subst (IsRea
       (s.0, r.1 ∙ ap (λ l. xs ++ l) s.1 ∙ sym (append_assoc xs (x ∷ []) s.0), s.2, s.3);
 })
 
-pub all_read : {X : Type 0} (spell : X → List ℕ) (fits : X → Type 0) (whole left : List (List ℕ)) (xs : List X) → IsReadSoFar spell fits whole left xs → left ≡ [] → whole ≡ map spell xs
+pub all_read : {X : Type 0} (spell : X → List ℕ) (fits : X → Type 0) (whole left : List (List ℕ)) (xs : List X) → IsReadSoFar spell fits whole left xs
+    → left ≡ [] → whole ≡ map spell xs
 all_read spell fits whole left xs h e = h.so_far ∙ ap (λ l. map spell xs ++ l) e ∙ append-nil (map spell xs)
 
 nothing_left : {X : Type 0} (spell : X → List ℕ) (zs : List X) → [] ≡ map spell zs → zs ≡ []
 nothing_left spell [] e = refl
 nothing_left spell (z ∷ zs) e = absurd cc
 
-pub only_these : {X : Type 0} (spell : X → List ℕ) (fits : X → Type 0) (whole left : List (List ℕ)) (xs : List X) → IsReadSoFar spell fits whole left xs → left ≡ []
+pub only_these : {X : Type 0} (spell : X → List ℕ) (fits : X → Type 0) (whole left : List (List ℕ)) (xs : List X) → IsReadSoFar spell fits whole left xs
+    → left ≡ []
     → (ys : List X) → AllByRecursion fits ys → whole ≡ map spell ys → xs ≡ ys
 only_these spell fits whole left xs h e ys all is =
     let r = h.only ys all is in
@@ -63,9 +68,11 @@ longer [] (y ∷ ys) some = omega arith
 longer (x ∷ xs) ys some = omega (arith, longer xs ys some)
 
 -- where more is left, a list that is the whole is longer
-pub is_longer : {X : Type 0} (spell : X → List ℕ) (fits : X → Type 0) (whole left : List (List ℕ)) (xs : List X) → IsReadSoFar spell fits whole left xs → (left ≡ [] → ⊥)
+pub is_longer : {X : Type 0} (spell : X → List ℕ) (fits : X → Type 0) (whole left : List (List ℕ)) (xs : List X) → IsReadSoFar spell fits whole left xs
+    → (left ≡ [] → ⊥)
     → (ys : List X) → AllByRecursion fits ys → whole ≡ map spell ys → length xs < length ys
-is_longer spell fits whole left xs h more ys all is = let r = h.only ys all is in subst (λ l. length xs < length l) (sym r.1) (longer xs r.0 (λ e. more (r.3 ∙ ap (map spell) e)))
+is_longer spell fits whole left xs h more ys all is = let r = h.only ys all is in subst (λ l. length xs < length l) (sym r.1)
+    (longer xs r.0 (λ e. more (r.3 ∙ ap (map spell) e)))
 
 stuck : {X : Type 0} (spell : X → List ℕ) (fits : X → Type 0) (left : List (List ℕ)) → (left ≡ [] → ⊥)
     → ((y : X) (ws : List (List ℕ)) → fits y → left ≡ spell y ∷ ws → ⊥) → (zs : List X) → AllByRecursion fits zs → left ≡ map spell zs → ⊥
@@ -73,12 +80,14 @@ stuck spell fits left more none [] a e = more e
 stuck spell fits left more none (z ∷ zs) a e = none z (map spell zs) a.0 e
 
 -- where the next item can't be read, there is no such list
-pub no_list : {X : Type 0} (spell : X → List ℕ) (fits : X → Type 0) (whole left : List (List ℕ)) (xs : List X) → IsReadSoFar spell fits whole left xs → (left ≡ [] → ⊥)
+pub no_list : {X : Type 0} (spell : X → List ℕ) (fits : X → Type 0) (whole left : List (List ℕ)) (xs : List X) → IsReadSoFar spell fits whole left xs
+    → (left ≡ [] → ⊥)
     → ((y : X) (ws : List (List ℕ)) → fits y → left ≡ spell y ∷ ws → ⊥) → (ys : List X) → AllByRecursion fits ys → whole ≡ map spell ys → ⊥
 no_list spell fits whole left xs h more none ys all is = let r = h.only ys all is in stuck spell fits left more none r.0 r.2 r.3
 
 -- the items read and the next one stand in front of a list that is the whole
-pub has_next : {X : Type 0} (spell : X → List ℕ) (fits : X → Type 0) (whole left behind : List (List ℕ)) (xs : List X) (x : X) → IsReadSoFar spell fits whole left xs → left ≡ spell x ∷ behind → IsNext spell fits left x behind
+pub has_next : {X : Type 0} (spell : X → List ℕ) (fits : X → Type 0) (whole left behind : List (List ℕ)) (xs : List X) (x : X)
+    → IsReadSoFar spell fits whole left xs → left ≡ spell x ∷ behind → IsNext spell fits left x behind
     → (ys : List X) → AllByRecursion fits ys → whole ≡ map spell ys → (zs : List X) × (ys ≡ xs ++ x ∷ zs)
 has_next spell fits whole left behind xs x h e next ys all is =
     let r = h.only ys all is in
@@ -95,7 +104,8 @@ pub sum_push : (xs ys : List ℕ) (x : ℕ) → ys ≡ xs ++ x ∷ [] → sum ys
 sum_push xs ys x e = let s : sum ys ≡ sum xs + (0 + x) = ap sum e ∙ sum_append xs (x ∷ []) in omega (arith, s)
 
 pub sum_at_least : (xs : List ℕ) (x : ℕ) (zs ys : List ℕ) → ys ≡ xs ++ x ∷ zs → sum xs + x ≤ sum ys
-sum_at_least xs x zs ys e = let s : sum ys ≡ sum xs + sum (x ∷ zs) = ap sum e ∙ sum_append xs (x ∷ zs) in let t : sum (x ∷ zs) ≡ (0 + x) + sum zs = sum_append (x ∷ []) zs in omega (arith, s, t)
+sum_at_least xs x zs ys e = let s : sum ys ≡ sum xs + sum (x ∷ zs) = ap sum e ∙ sum_append xs (x ∷ zs) in let t : sum (x ∷ zs) ≡ (0 + x) + sum zs = sum_append
+    (x ∷ []) zs in omega (arith, s, t)
 
 ends_push : (xs : List Word) (x : Word) → ends_with_zero (xs ++ x ∷ []) ≡ (x.0 == 0)
 ends_push [] x = refl

@@ -1,5 +1,6 @@
 -- Rows by rising PID are told by what is found among them.
-use Rattle.std.proofs.Common.{◌≡◌, ◌≢◌, ℕ, zero, suc, ◌<◌, ◌≤◌, false, List, [], ◌∷◌, ◌++◌, Option, Some, None, length, map, refl, sym, ◌∙◌, ap, subst, arith, inl, inr}
+use Rattle.std.proofs.Common.{◌≡◌, ◌≢◌, ℕ, zero, suc, ◌<◌, ◌≤◌, false, List, [], ◌∷◌, ◌++◌, Option, Some, None, length, map, refl, sym, ◌∙◌, ap, subst}
+use Rattle.std.proofs.Common.{arith, inl, inr}
 use Rattle.std.specs.Prelude.{Contains, nat_eq, slice_index_or}
 use Rattle.std.specs.List.{AllByRecursion}
 use Rattle.std.specs.List.Sorted.{IsPermutation}
@@ -86,15 +87,19 @@ found_from b n (x ∷ xs) r h e = elim (cases_Bool (nat_eq x.pid n)) [
   | inr misses ↦ let s : find n xs ≡ Some r = rw misses at e in omega (arith, h.0, found_from x.pid n xs r h.1 s)
 ]
 
-row_parts : (r : ShapeRow) (pid : ℕ) (s : Shape) → r.pid ≡ pid → r.shape ≡ s → (let q : ShapeRow = record { pid = pid; name = r.name; shape = s } in Some r ≡ Some q)
-row_parts r pid s e f = ap (λ n. let q : ShapeRow = record { pid = n; name = r.name; shape = r.shape } in Some q) e ∙ ap (λ t. let q : ShapeRow = record { pid = pid; name = r.name; shape = t } in Some q) f
+row_parts : (r : ShapeRow) (pid : ℕ) (s : Shape) → r.pid ≡ pid → r.shape ≡ s
+    → (let q : ShapeRow = record { pid = pid; name = r.name; shape = s } in Some r ≡ Some q)
+row_parts r pid s e f = ap (λ n. let q : ShapeRow = record { pid = n; name = r.name; shape = r.shape } in Some q) e ∙ ap
+    (λ t. let q : ShapeRow = record { pid = pid; name = r.name; shape = t } in Some q) f
 
-row_told_by : (rows : List ShapeRow) (pid : ℕ) (s : Shape) (o : Option ShapeRow) → find pid rows ≡ o → shape_of_row o ≡ Some s → (let q : ShapeRow = record { pid = pid; name = name_of_row o; shape = s } in o ≡ Some q)
+row_told_by : (rows : List ShapeRow) (pid : ℕ) (s : Shape) (o : Option ShapeRow) → find pid rows ≡ o → shape_of_row o ≡ Some s
+    → (let q : ShapeRow = record { pid = pid; name = name_of_row o; shape = s } in o ≡ Some q)
 row_told_by rows pid s None e f = absurd cc
 row_told_by rows pid s (Some r) e f = let same : r.shape ≡ s = cc f in row_parts r pid s (found_pid pid rows r e) same
 
 -- the row of a PID with its shape
-pub row_told : (rows : List ShapeRow) (pid : ℕ) (s : Shape) → shape_of_row (find pid rows) ≡ Some s → (let q : ShapeRow = record { pid = pid; name = name_of_row (find pid rows); shape = s } in IsRowOf rows q)
+pub row_told : (rows : List ShapeRow) (pid : ℕ) (s : Shape) → shape_of_row (find pid rows) ≡ Some s
+    → (let q : ShapeRow = record { pid = pid; name = name_of_row (find pid rows); shape = s } in IsRowOf rows q)
 row_told rows pid s f = row_told_by rows pid s (find pid rows) refl f
 
 -- The same rows.
@@ -103,7 +108,8 @@ from_there : (b : ℕ) (rows : List ShapeRow) → RisingFrom b rows → Rising r
 from_there b [] h = tt
 from_there b (x ∷ xs) h = h.1
 
-past_head : (y : ShapeRow) (ys : List ShapeRow) (b : ℕ) (xs : List ShapeRow) → RisingFrom b xs → y.pid ≤ b → AllByRecursion (IsRowOf (y ∷ ys)) xs → AllByRecursion (IsRowOf ys) xs
+past_head : (y : ShapeRow) (ys : List ShapeRow) (b : ℕ) (xs : List ShapeRow) → RisingFrom b xs → y.pid ≤ b → AllByRecursion (IsRowOf (y ∷ ys)) xs
+    → AllByRecursion (IsRowOf ys) xs
 past_head y ys b [] h le a = tt
 past_head y ys b (x ∷ xs) h le a =
     let misses : nat_eq y.pid x.pid ≡ false = ne_eqb y.pid x.pid (λ e. omega (arith, e, le, h.0)) in
@@ -117,7 +123,8 @@ few_rows (x ∷ xs) [] h k a = let e : None ≡ Some x = a.0 in absurd (cc e)
 few_rows (x ∷ xs) (y ∷ ys) h k a =
     let here : find x.pid (y ∷ ys) ≡ Some x = a.0 in
     elim (cases_Bool (nat_eq y.pid x.pid)) [
-      | inl is ↦ let le = few_rows xs ys (from_there x.pid xs h) (from_there y.pid ys k) (past_head y ys x.pid xs h (omega (arith, eqb-true y.pid x.pid is)) a.1) in omega (arith, le)
+      | inl is ↦ let le = few_rows xs ys (from_there x.pid xs h) (from_there y.pid ys k)
+          (past_head y ys x.pid xs h (omega (arith, eqb-true y.pid x.pid is)) a.1) in omega (arith, le)
       | inr misses ↦
           let s : find x.pid ys ≡ Some x = rw misses at here in
           let lt = found_from y.pid x.pid ys x k s in
@@ -136,7 +143,8 @@ same_rows (x ∷ xs) (y ∷ ys) h k a few =
       | inl is ↦
           let s : Some y ≡ Some x = rw is at here in
           let same : x ≡ y = cc s in
-          let rest = same_rows xs ys (from_there x.pid xs h) (from_there y.pid ys k) (past_head y ys x.pid xs h (omega (arith, eqb-true y.pid x.pid is)) a.1) (omega (arith, few)) in
+          let rest = same_rows xs ys (from_there x.pid xs h) (from_there y.pid ys k) (past_head y ys x.pid xs h (omega (arith, eqb-true y.pid x.pid is)) a.1)
+          (omega (arith, few)) in
           ap (λ r. r ∷ xs) same ∙ ap (λ l. y ∷ l) rest
       | inr misses ↦
           let s : find x.pid ys ≡ Some x = rw misses at here in
@@ -146,7 +154,8 @@ same_rows (x ∷ xs) (y ∷ ys) h k a few =
     ]
 
 -- rows of two PIDs have two names
-pub other_name : (rows : List ShapeRow) (a b : ℕ) (r s : ShapeRow) → HasEachNameOnce rows → find a rows ≡ Some r → find b rows ≡ Some s → a ≢ b → r.name ≢ s.name
+pub other_name : (rows : List ShapeRow) (a b : ℕ) (r s : ShapeRow) → HasEachNameOnce rows → find a rows ≡ Some r → find b rows ≡ Some s → a ≢ b
+    → r.name ≢ s.name
 other_name [] a b r s once e f apart = absurd cc
 other_name (x ∷ xs) a b r s once e f apart = elim (cases_Bool (nat_eq x.pid a)) [
   | inl is ↦
@@ -154,12 +163,14 @@ other_name (x ∷ xs) a b r s once e f apart = elim (cases_Bool (nat_eq x.pid a)
       let same : r ≡ x = cc p in
       elim (cases_Bool (nat_eq x.pid b)) [
         | inl there ↦ absurd (apart (sym (eqb-true x.pid a is) ∙ eqb-true x.pid b there))
-        | inr not_there ↦ let q : find b xs ≡ Some s = rw not_there at f in λ n. found_each (λ other. other.name ≢ x.name) b xs s once.0 q (sym n ∙ ap (λ (y : ShapeRow). y.name) same)
+        | inr not_there ↦ let q : find b xs ≡ Some s = rw not_there at f in λ n. found_each (λ other. other.name ≢ x.name) b xs s once.0 q
+            (sym n ∙ ap (λ (y : ShapeRow). y.name) same)
       ]
   | inr misses ↦
       let p : find a xs ≡ Some r = rw misses at e in
       elim (cases_Bool (nat_eq x.pid b)) [
-        | inl there ↦ let q : Some x ≡ Some s = rw there at f in let same : s ≡ x = cc q in λ n. found_each (λ other. other.name ≢ x.name) a xs r once.0 p (n ∙ ap (λ (y : ShapeRow). y.name) same)
+        | inl there ↦ let q : Some x ≡ Some s = rw there at f in let same : s ≡ x = cc q in λ n. found_each (λ other. other.name ≢ x.name) a xs r once.0 p
+            (n ∙ ap (λ (y : ShapeRow). y.name) same)
         | inr not_there ↦ let q : find b xs ≡ Some s = rw not_there at f in other_name xs a b r s once.1 p q apart
       ]
 ]

@@ -128,20 +128,25 @@ same_register : (n m : ℕ) → n < 2 ^ 32 → m < 2 ^ 32 → reg n ≡ reg m �
 same_register n m h k e = let tails : decimal n ≡ decimal m = cc e in decimal_injective n m (omega arith) (omega arith) tails
 
 -- words that begin with a register
-behind_register : (d : ℕ) (o : Option ℕ) (m : Mnemonic) (ops rest : List (List ℕ)) → d < 2 ^ 32 → AreWords (option_to_list o) → reg d ∷ rest ≡ gets_if_some o (mnemonic_text m ∷ ops)
+behind_register : (d : ℕ) (o : Option ℕ) (m : Mnemonic) (ops rest : List (List ℕ)) → d < 2 ^ 32 → AreWords (option_to_list o)
+    → reg d ∷ rest ≡ gets_if_some o (mnemonic_text m ∷ ops)
     → (o ≡ Some d) × (rest ≡ codes "=" ∷ mnemonic_text m ∷ ops)
 behind_register d None m ops rest lt h e = let first : reg d ≡ mnemonic_text m = cc e in absurd (no_register d m lt first)
-behind_register d (Some n) m ops rest lt h e = let first : reg d ≡ reg n = cc e in let others : rest ≡ codes "=" ∷ mnemonic_text m ∷ ops = cc e in (ap Some (sym (same_register d n lt h.0 first)), others)
+behind_register d (Some n) m ops rest lt h e = let first : reg d ≡ reg n = cc e in let others : rest ≡ codes "=" ∷ mnemonic_text m ∷ ops = cc e
+    in (ap Some (sym (same_register d n lt h.0 first)), others)
 
 pub with_dest : (d : ℕ) (words rest : List (List ℕ)) (s : Statement) → d < 2 ^ 32 → IsFitStatement s → words ≡ reg d ∷ rest → words ≡ statement_parts s
     → (dest_of s ≡ Some d) × (rest ≡ codes "=" ∷ mnemonic_text (name_of s) ∷ operands_of s)
 with_dest d words rest s lt h e is = behind_register d (dest_of s) (name_of s) (operands_of s) rest lt (dest_fits s h) (sym e ∙ is ∙ by_parts s)
 
-no_dest : (o : Option ℕ) (m : Mnemonic) (ops words : List (List ℕ)) → AreWords (option_to_list o) → ((n : ℕ) (ws : List (List ℕ)) → n < 2 ^ 32 → words ≡ reg n ∷ ws → ⊥) → words ≡ gets_if_some o (mnemonic_text m ∷ ops) → (o ≡ None) × (words ≡ mnemonic_text m ∷ ops)
+no_dest : (o : Option ℕ) (m : Mnemonic) (ops words : List (List ℕ)) → AreWords (option_to_list o)
+    → ((n : ℕ) (ws : List (List ℕ)) → n < 2 ^ 32 → words ≡ reg n ∷ ws → ⊥) → words ≡ gets_if_some o (mnemonic_text m ∷ ops)
+    → (o ≡ None) × (words ≡ mnemonic_text m ∷ ops)
 no_dest None m ops words h none e = (refl, e)
 no_dest (Some n) m ops words h none e = absurd (none n (codes "=" ∷ mnemonic_text m ∷ ops) h.0 e)
 
-pub without_dest : (words : List (List ℕ)) (s : Statement) → IsFitStatement s → ((n : ℕ) (ws : List (List ℕ)) → n < 2 ^ 32 → words ≡ reg n ∷ ws → ⊥) → words ≡ statement_parts s
+pub without_dest : (words : List (List ℕ)) (s : Statement) → IsFitStatement s → ((n : ℕ) (ws : List (List ℕ)) → n < 2 ^ 32 → words ≡ reg n ∷ ws → ⊥)
+    → words ≡ statement_parts s
     → (dest_of s ≡ None) × (words ≡ mnemonic_text (name_of s) ∷ operands_of s)
 without_dest words s h none is = no_dest (dest_of s) (name_of s) (operands_of s) words (dest_fits s h) none (is ∙ by_parts s)
 
@@ -152,7 +157,8 @@ with_register : (d n : ℕ) (r : Option Statement) (f : ℕ → Statement) → S
 with_register d n r f e told = let same : d ≡ n = cc e in subst (λ m. Told r (f m)) same told
 
 -- a reader of what a register gets answers each statement that isn't a call
-pub gets_each : (d : ℕ) (ws : List (List ℕ)) (r : Option Statement) (s : Statement) → (name_of s ≡ name.Call → ⊥) → dest_of s ≡ Some d → AnswersGets d (name_of s) ws r → IsFitStatement s → ws ≡ operands_of s → Told r s
+pub gets_each : (d : ℕ) (ws : List (List ℕ)) (r : Option Statement) (s : Statement) → (name_of s ≡ name.Call → ⊥) → dest_of s ≡ Some d
+    → AnswersGets d (name_of s) ws r → IsFitStatement s → ws ≡ operands_of s → Told r s
 gets_each d ws r (Instr (instr.Const n w)) c e a h k = with_register d n r (λ m. Instr (instr.Const m w)) e (a w h.1.1.0 k)
 gets_each d ws r (Instr (instr.Move n s)) c e a h k = with_register d n r (λ m. Instr (instr.Move m s)) e (a s h.1.1.0 k)
 gets_each d ws r (Instr (instr.Conv n t s)) c e a h k = with_register d n r (λ m. Instr (instr.Conv m t s)) e (a t s h.0 h.1.1.0 k)
@@ -170,7 +176,8 @@ gets_each d ws r (Instr (instr.GetChar n)) c e a h k = with_register d n r (λ m
 gets_each d ws r (Instr (instr.PutChar n s)) c e a h k = with_register d n r (λ m. Instr (instr.PutChar m s)) e (a s h.1.1.0 k)
 gets_each d ws r (End x) c e a h k = absurd cc
 
-pub plain_each : (ws : List (List ℕ)) (r : Option Statement) (s : Statement) → (name_of s ≡ name.Call → ⊥) → dest_of s ≡ None → AnswersPlain (name_of s) ws r → IsFitStatement s → ws ≡ operands_of s → Told r s
+pub plain_each : (ws : List (List ℕ)) (r : Option Statement) (s : Statement) → (name_of s ≡ name.Call → ⊥) → dest_of s ≡ None → AnswersPlain (name_of s) ws r
+    → IsFitStatement s → ws ≡ operands_of s → Told r s
 plain_each ws r (Instr (instr.Const n w)) c e a h k = absurd cc
 plain_each ws r (Instr (instr.Move n s)) c e a h k = absurd cc
 plain_each ws r (Instr (instr.Conv n t s)) c e a h k = absurd cc

@@ -33,17 +33,18 @@ AreRead None x y ws = ⊥
 AreRead (Some r) x y ws = (r.0 ≡ x) × (r.1 ≡ y) × (words_left r.2 ≡ ws)
 
 -- a routine's first line up to the elements of its arrays, in front of these words
-abbrev pub routine_front : NamedRoutine → List (List ℕ) → List (List ℕ)
-routine_front x ws =
+abbrev pub routine_partial : NamedRoutine → List (List ℕ) → List (List ℕ)
+routine_partial x ws =
     decimal x.routine.pid ∷ x.name ∷ codes "params" ∷ decimal x.routine.params ∷ value_name x.routine.value
     ∷ codes "regs" ∷ decimal x.routine.regs ∷ codes "entry" ∷ decimal x.routine.entry ∷ ws
 
 abbrev pub routine_tail : NamedRoutine → List (List ℕ)
-routine_tail x = routine_front x (arrays_parts x.routine.arrays)
+routine_tail x = routine_partial x (arrays_parts x.routine.arrays)
 
 -- what was read of a routine, and that it stands in front of what is left of these words
 pub record IsRoutineHeadOf (h : RoutineHead) (words : List (List ℕ)) : Type 0 where
-  pub read : words ≡ decimal h.pid ∷ h.name.now ∷ codes "params" ∷ decimal h.params ∷ value_name h.value ∷ codes "regs" ∷ decimal h.regs ∷ codes "entry" ∷ decimal h.entry ∷ words_left h.rest
+  pub read : words ≡ decimal h.pid ∷ h.name.now ∷ codes "params" ∷ decimal h.params ∷ value_name h.value ∷ codes "regs" ∷ decimal h.regs ∷ codes "entry" ∷
+      decimal h.entry ∷ words_left h.rest
   pub pid : IsPid h.pid
   pub name : IsName h.name.now
   pub params : h.params ≤ max_parameters

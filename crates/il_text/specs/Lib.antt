@@ -5,8 +5,8 @@ pub mod Lines
 pub mod Parts
 pub mod Heads
 pub mod Kinds
-pub mod Fronts
-pub mod FitFronts
+pub mod Partials
+pub mod FitPartials
 pub mod Texts
 pub mod Faults
 pub mod Order

@@ -4,7 +4,8 @@ use Rattle.std.specs.Cmp.Lexicographic.{pointwise}
 use Rattle.hlo_num.specs.declared.word.Op.TheVariants as op
 use Rattle.il_core.specs.Text.{op_name}
 use Rattle.il_text.specs.declared.mnemonic.Mnemonic.{Mnemonic}
-use Rattle.il_text.specs.declared.mnemonic.Mnemonic.TheVariants.{Const, Move, Conv, Bin, Get, Set, GetX, SetX, GetA, SetA, Clear, Turn, Call, GetChar, PutChar, Jump, Branch, Loop, Return, Exit}
+use Rattle.il_text.specs.declared.mnemonic.Mnemonic.TheVariants.{Const, Move, Conv, Bin, Get, Set, GetX, SetX, GetA, SetA, Clear, Turn, Call, GetChar}
+use Rattle.il_text.specs.declared.mnemonic.Mnemonic.TheVariants.{PutChar, Jump, Branch, Loop, Return, Exit}
 
 abbrev pub mnemonic_text : Mnemonic → List ℕ
 mnemonic_text Const = codes "const"
@@ -30,7 +31,8 @@ mnemonic_text Exit = codes "exit"
 
 abbrev pub mnemonics : List Mnemonic
 mnemonics =
-    Const ∷ Move ∷ Get ∷ Set ∷ Bin op.AddS ∷ Bin op.AddU ∷ Bin op.SubS ∷ Bin op.SubU ∷ Bin op.MulS ∷ Bin op.MulU ∷ Bin op.DivS ∷ Bin op.DivU ∷ Bin op.RemS ∷ Bin op.RemU
+    Const ∷ Move ∷ Get ∷ Set ∷ Bin op.AddS ∷ Bin op.AddU ∷ Bin op.SubS ∷ Bin op.SubU ∷ Bin op.MulS ∷ Bin op.MulU ∷ Bin op.DivS ∷ Bin op.DivU ∷ Bin op.RemS ∷ Bin
+    op.RemU
     ∷ Bin op.And ∷ Bin op.Or ∷ Bin op.Xor ∷ Bin op.Shl ∷ Bin op.ShrS ∷ Bin op.ShrU ∷ Bin op.Eq ∷ Bin op.Ne ∷ Bin op.LtS ∷ Bin op.LtU ∷ Bin op.LeS ∷ Bin op.LeU
     ∷ Conv ∷ GetX ∷ SetX ∷ GetA ∷ SetA ∷ Clear ∷ Turn ∷ Call ∷ GetChar ∷ PutChar ∷ Jump ∷ Branch ∷ Loop ∷ Return ∷ Exit ∷ []
 

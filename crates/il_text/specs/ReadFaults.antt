@@ -8,14 +8,14 @@ use Rattle.il_check.specs.declared.flaw.Flaw.{Flaw}
 use Rattle.il_text.specs.declared.fault.IlFault.{IlFault}
 use Rattle.il_text.specs.declared.fault.IlFault.TheVariants.{At, Memory}
 use Rattle.il_text.specs.declared.fault.IlKind.TheVariants as kind
-use Rattle.il_text.specs.declared.front.Place.TheVariants.{Done}
+use Rattle.il_text.specs.declared.partial.Place.TheVariants.{Done}
 use Rattle.il_text.specs.declared.line.NamedObject.{NamedObject}
 use Rattle.il_text.specs.declared.line.NamedRoutine.{NamedRoutine}
 use Rattle.il_text.specs.Assembled.{first_out_of_order, HasPartsOf}
 use Rattle.il_text.specs.Checked.{IsFirstFlawed, is_main, line_count}
 use Rattle.il_text.specs.Faults.{IsFirstBadLine}
-use Rattle.il_text.specs.FitFronts.{IsFitRoutine}
-use Rattle.il_text.specs.Fronts.{lines_of}
+use Rattle.il_text.specs.FitPartials.{IsFitRoutine}
+use Rattle.il_text.specs.Partials.{lines_of}
 use Rattle.il_text.specs.Lines.{IsFitObject}
 use Rattle.il_text.specs.Order.{first_misplaced, object_items, routine_items}
 use Rattle.il_text.specs.Texts.{lines_text}

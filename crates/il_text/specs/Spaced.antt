@@ -16,7 +16,8 @@ call_head dest callee count = 32 ∷ 32 ∷ join_with_byte 32 (gets_if_some dest
 
 -- the first line of a routine up to the lengths of its arrays
 abbrev pub routine_head : List ℕ → RoutineParts → List ℕ
-routine_head name r = join_with_byte 32 (codes "routine" ∷ decimal r.pid ∷ name ∷ codes "params" ∷ decimal r.params ∷ value_name r.value ∷ codes "regs" ∷ decimal r.regs ∷ codes "entry" ∷ decimal r.entry ∷ [])
+routine_head name r = join_with_byte 32 (codes "routine" ∷ decimal r.pid ∷ name ∷ codes "params" ∷ decimal r.params ∷ value_name r.value ∷ codes "regs" ∷
+    decimal r.regs ∷ codes "entry" ∷ decimal r.entry ∷ [])
 
 -- the line of an object up to its number of words
 abbrev pub object_head : List ℕ → ObjectParts → List ℕ

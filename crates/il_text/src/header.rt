@@ -4,7 +4,7 @@ ghost use Rattle.std.specs.List.{list_all};
 ghost use Rattle.std.specs.Fmt.{decimal};
 ghost use Rattle.hlo_num.specs.Name.{IsName};
 ghost use Rattle.il_core.specs.Limits.{IsPid, max_parameters, max_registers};
-ghost use Rattle.il_text.specs.Heads.{AreRead, IsObjectHead, IsObjectHeadOf, IsRoutineHead, IsRoutineHeadOf, object_tail, routine_front, routine_tail};
+ghost use Rattle.il_text.specs.Heads.{AreRead, IsObjectHead, IsObjectHeadOf, IsRoutineHead, IsRoutineHeadOf, object_tail, routine_partial, routine_tail};
 ghost use Rattle.il_core.specs.Text.{value_name};
 ghost use Rattle.il_text.specs.Lines.{IsFitHeader, IsFitObject};
 ghost use Rattle.text_lines.specs.Words.{words_left, IsRead};
@@ -52,7 +52,8 @@ pub(crate) fn object(alloc: Global, words: Words<'_>) -> Result<Option<NamedObje
 /// An object's line behind its first word, up to its words at the start.
 fn object_head(words: Words<'_>) -> Option<ObjectHead<'_>>
     ensures found { IfSome result (λ h. IsObjectHeadOf h (words_left words.entry)) }
-    ensures each { (p : ℕ) (name : List ℕ) (n : ℕ) (ws : List (List ℕ)) → IsPid p → IsName name → 0 < n → n < 2 ^ 32 → words_left words.entry ≡ decimal p ∷ name ∷ decimal n ∷ ws → IsObjectHead result p name n ws }
+    ensures each { (p : ℕ) (name : List ℕ) (n : ℕ) (ws : List (List ℕ)) → IsPid p → IsName name → 0 < n → n < 2 ^ 32
+        → words_left words.entry ≡ decimal p ∷ name ∷ decimal n ∷ ws → IsObjectHead result p name n ws }
 {
     let (pid, words) = pid(words)?;
     let (name, words) = next_name(words)?;
@@ -122,7 +123,7 @@ pub(crate) fn routine(alloc: Global, words: Words<'_>) -> Result<Option<NamedRou
 /// A routine's first line behind its first word, up to the elements of its arrays.
 fn routine_head(words: Words<'_>) -> Option<RoutineHead<'_>>
     ensures found { IfSome result (λ h. IsRoutineHeadOf h (words_left words.entry)) }
-    ensures each { (x : NamedRoutine) (ws : List (List ℕ)) → IsFitHeader x → words_left words.entry ≡ routine_front x ws → IsRoutineHead result x ws }
+    ensures each { (x : NamedRoutine) (ws : List (List ℕ)) → IsFitHeader x → words_left words.entry ≡ routine_partial x ws → IsRoutineHead result x ws }
 {
     let (pid, words) = pid(words)?;
     let (name, words) = next_name(words)?;
@@ -143,7 +144,8 @@ fn routine_head(words: Words<'_>) -> Option<RoutineHead<'_>>
 fn params_and_value(words: Words<'_>) -> Option<(u32, bool, Words<'_>)>
     ensures found { IfSome result (λ x. words_left words.entry ≡ codes "params" ∷ decimal x.0 ∷ value_name x.1 ∷ words_left x.2) }
     ensures range { IfSome result (λ x. x.0 ≤ max_parameters) }
-    ensures each { (n : ℕ) (v : Bool) (ws : List (List ℕ)) → n ≤ max_parameters → words_left words.entry ≡ codes "params" ∷ decimal n ∷ value_name v ∷ ws → AreRead result n v ws }
+    ensures each { (n : ℕ) (v : Bool) (ws : List (List ℕ)) → n ≤ max_parameters → words_left words.entry ≡ codes "params" ∷ decimal n ∷ value_name v ∷ ws
+        → AreRead result n v ws }
 {
     let (params, words) = counted(words, b"params")?;
     if params > limits::PARAMETERS {
@@ -179,7 +181,8 @@ fn value_named(word: &[u8]) -> Option<bool>
 fn regs_and_entry(words: Words<'_>) -> Option<(u32, u32, Words<'_>)>
     ensures found { IfSome result (λ x. words_left words.entry ≡ codes "regs" ∷ decimal x.0 ∷ codes "entry" ∷ decimal x.1 ∷ words_left x.2) }
     ensures range { IfSome result (λ x. (x.0 ≤ max_registers) × (x.1 < 2 ^ 32)) }
-    ensures each { (n m : ℕ) (ws : List (List ℕ)) → n ≤ max_registers → m < 2 ^ 32 → words_left words.entry ≡ codes "regs" ∷ decimal n ∷ codes "entry" ∷ decimal m ∷ ws → AreRead result n m ws }
+    ensures each { (n m : ℕ) (ws : List (List ℕ)) → n ≤ max_registers → m < 2 ^ 32
+        → words_left words.entry ≡ codes "regs" ∷ decimal n ∷ codes "entry" ∷ decimal m ∷ ws → AreRead result n m ws }
 {
     let (regs, words) = counted(words, b"regs")?;
     if regs > limits::REGISTERS {

@@ -3,7 +3,6 @@
 
 mod check;
 mod fault;
-mod front;
 mod head;
 mod header;
 mod instr;
@@ -12,11 +11,12 @@ mod lists;
 mod mnemonic;
 mod operands;
 mod order;
+mod partial;
 mod program;
 mod read;
-mod reading;
 mod routine;
 mod statement;
+mod text;
 
 pub use fault::{IlFault, IlKind};
 pub use head::write_head;

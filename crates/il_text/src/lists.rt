@@ -40,7 +40,8 @@ pub(crate) fn arguments(alloc: Global, words: Words<'_>) -> Result<Option<Seq<u3
 pub(crate) fn arrays(alloc: Global, words: Words<'_>) -> Result<Option<Seq<u32>>, AllocError>
     ensures found { IfOk result (λ o. IfSome o (λ lens. words_left words.entry ≡ arrays_parts lens)) }
     ensures few { IfOk result (λ o. IfSome o (λ lens. (length lens ≤ max_arrays) × (sum lens ≤ max_elements))) }
-    ensures each { IfOk result (λ o. (lens : List ℕ) → AreWords lens → length lens ≤ max_arrays → sum lens ≤ max_elements → words_left words.entry ≡ arrays_parts lens → o ≡ Some lens) }
+    ensures each { IfOk result (λ o. (lens : List ℕ) → AreWords lens → length lens ≤ max_arrays → sum lens ≤ max_elements
+        → words_left words.entry ≡ arrays_parts lens → o ≡ Some lens) }
 {
     if is_done(words) {
         return Ok(Some(Seq::new(alloc)));
@@ -55,7 +56,8 @@ pub(crate) fn arrays(alloc: Global, words: Words<'_>) -> Result<Option<Seq<u32>>
 fn lengths(alloc: Global, words: Words<'_>) -> Result<Option<Seq<u32>>, AllocError>
     ensures found { IfOk result (λ o. IfSome o (λ lens. words_left words.entry ≡ map decimal lens)) }
     ensures few { IfOk result (λ o. IfSome o (λ lens. (length lens ≤ max_arrays) × (sum lens ≤ max_elements))) }
-    ensures each { IfOk result (λ o. (lens : List ℕ) → AreWords lens → length lens ≤ max_arrays → sum lens ≤ max_elements → words_left words.entry ≡ map decimal lens → o ≡ Some lens) }
+    ensures each { IfOk result (λ o. (lens : List ℕ) → AreWords lens → length lens ≤ max_arrays → sum lens ≤ max_elements
+        → words_left words.entry ≡ map decimal lens → o ≡ Some lens) }
 {
     let mut lens = Seq::new(alloc);
     let mut elements = 0;

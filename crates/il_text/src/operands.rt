@@ -187,7 +187,8 @@ pub(crate) fn global_register(words: Words<'_>) -> Option<(u32, u32)>
 pub(crate) fn global_registers(words: Words<'_>) -> Option<(u32, u32, u32)>
     ensures found { IfSome result (λ x. words_left words.entry ≡ global x.0 ∷ reg x.1 ∷ reg x.2 ∷ []) }
     ensures range { IfSome result (λ x. IsPid x.0 × (x.1 < 2 ^ 32) × (x.2 < 2 ^ 32)) }
-    ensures each { (n : ℕ) (m : ℕ) (k : ℕ) → IsPid n → m < 2 ^ 32 → k < 2 ^ 32 → words_left words.entry ≡ global n ∷ reg m ∷ reg k ∷ [] → result ≡ Some (n, m, k) }
+    ensures each { (n : ℕ) (m : ℕ) (k : ℕ) → IsPid n → m < 2 ^ 32 → k < 2 ^ 32 → words_left words.entry ≡ global n ∷ reg m ∷ reg k ∷ []
+        → result ≡ Some (n, m, k) }
 {
     let (first, words) = global(words)?;
     let (second, words) = register(words)?;
@@ -218,7 +219,8 @@ pub(crate) fn array_register(words: Words<'_>) -> Option<(u32, u32)>
 pub(crate) fn array_registers(words: Words<'_>) -> Option<(u32, u32, u32)>
     ensures found { IfSome result (λ x. words_left words.entry ≡ array x.0 ∷ reg x.1 ∷ reg x.2 ∷ []) }
     ensures range { IfSome result (λ x. (x.0 < 2 ^ 32) × (x.1 < 2 ^ 32) × (x.2 < 2 ^ 32)) }
-    ensures each { (n : ℕ) (m : ℕ) (k : ℕ) → n < 2 ^ 32 → m < 2 ^ 32 → k < 2 ^ 32 → words_left words.entry ≡ array n ∷ reg m ∷ reg k ∷ [] → result ≡ Some (n, m, k) }
+    ensures each { (n : ℕ) (m : ℕ) (k : ℕ) → n < 2 ^ 32 → m < 2 ^ 32 → k < 2 ^ 32 → words_left words.entry ≡ array n ∷ reg m ∷ reg k ∷ []
+        → result ≡ Some (n, m, k) }
 {
     let (first, words) = array(words)?;
     let (second, words) = register(words)?;
@@ -234,7 +236,8 @@ pub(crate) fn array_registers(words: Words<'_>) -> Option<(u32, u32, u32)>
 pub(crate) fn ranges(words: Words<'_>) -> Option<(u32, u32, u32, u32)>
     ensures found { IfSome result (λ x. words_left words.entry ≡ reg x.0 ∷ decimal x.1 ∷ array x.2 ∷ decimal x.3 ∷ []) }
     ensures range { IfSome result (λ x. (x.0 < 2 ^ 32) × (x.1 < 2 ^ 32) × (x.2 < 2 ^ 32) × (x.3 < 2 ^ 32)) }
-    ensures each { (n : ℕ) (m : ℕ) (k : ℕ) (l : ℕ) → n < 2 ^ 32 → m < 2 ^ 32 → k < 2 ^ 32 → l < 2 ^ 32 → words_left words.entry ≡ reg n ∷ decimal m ∷ array k ∷ decimal l ∷ [] → result ≡ Some (n, m, k, l) }
+    ensures each { (n : ℕ) (m : ℕ) (k : ℕ) (l : ℕ) → n < 2 ^ 32 → m < 2 ^ 32 → k < 2 ^ 32 → l < 2 ^ 32
+        → words_left words.entry ≡ reg n ∷ decimal m ∷ array k ∷ decimal l ∷ [] → result ≡ Some (n, m, k, l) }
 {
     let (first, words) = register(words)?;
     let (second, words) = count(words)?;
@@ -261,7 +264,8 @@ pub(crate) fn only_block(words: Words<'_>) -> Option<u32>
 pub(crate) fn register_blocks(words: Words<'_>) -> Option<(u32, u32, u32)>
     ensures found { IfSome result (λ x. words_left words.entry ≡ reg x.0 ∷ block x.1 ∷ block x.2 ∷ []) }
     ensures range { IfSome result (λ x. (x.0 < 2 ^ 32) × (x.1 < 2 ^ 32) × (x.2 < 2 ^ 32)) }
-    ensures each { (n : ℕ) (m : ℕ) (k : ℕ) → n < 2 ^ 32 → m < 2 ^ 32 → k < 2 ^ 32 → words_left words.entry ≡ reg n ∷ block m ∷ block k ∷ [] → result ≡ Some (n, m, k) }
+    ensures each { (n : ℕ) (m : ℕ) (k : ℕ) → n < 2 ^ 32 → m < 2 ^ 32 → k < 2 ^ 32 → words_left words.entry ≡ reg n ∷ block m ∷ block k ∷ []
+        → result ≡ Some (n, m, k) }
 {
     let (first, words) = register(words)?;
     let (second, words) = block(words)?;

@@ -10,11 +10,11 @@ ghost use Rattle.il_text.specs.Whole.{IsTextOf, IsTyped};
 
 use crate::check::{first_flaw, has_main, line_count};
 use crate::fault::{IlFault, IlKind};
-use crate::front::Front;
 use crate::line::{NamedObject, NamedRoutine};
 use crate::order::{Used, misplaced_object, misplaced_routine};
+use crate::partial::Partial;
 use crate::program::assemble;
-use crate::reading::read_lines;
+use crate::text::read_lines;
 use il_core::{IlProgram, Routine};
 use std::alloc::Global;
 use std::collections::BTreeSet;
@@ -31,7 +31,7 @@ pub fn read_il(alloc: Global, b: &[u8]) -> Result<IlProgram, IlFault>
     ensures each { (p : IlProgram) → IsTextOf b.now p → IfOk result (λ q. q ≡ p) }
     ensures memory { (p : IlProgram) → IsTextOf b.now p → IfErr result (λ e. e ≡ IlFault.Memory) }
 {
-    let Front {
+    let Partial {
         objects,
         routines,
         ..

@@ -58,7 +58,8 @@ fn named(
     requires { AreWords (option_to_list dest) }
     ensures found { IfOk result (λ o. IfSome o (λ s. gets_if_some dest (words_left words.entry) ≡ statement_parts s)) }
     ensures fit { IfOk result (λ o. IfSome o IsFitStatement) }
-    ensures each { IfOk result (λ o. (s : Statement) → IsFitStatement s → dest_of s ≡ dest → words_left words.entry ≡ mnemonic_text (name_of s) ∷ operands_of s → o ≡ Some s) }
+    ensures each { IfOk result (λ o. (s : Statement) → IsFitStatement s → dest_of s ≡ dest
+        → words_left words.entry ≡ mnemonic_text (name_of s) ∷ operands_of s → o ≡ Some s) }
 {
     let Some((name, words)) = next(words) else {
         return Ok(None);
@@ -79,14 +80,15 @@ fn operands(
     requires { AreWords (option_to_list dest) }
     ensures found { IfOk result (λ o. IfSome o (λ s. gets_if_some dest (mnemonic_text mnemonic ∷ words_left words.entry) ≡ statement_parts s)) }
     ensures fit { IfOk result (λ o. IfSome o IsFitStatement) }
-    ensures each { IfOk result (λ o. (s : Statement) → IsFitStatement s → dest_of s ≡ dest → name_of s ≡ mnemonic → words_left words.entry ≡ operands_of s → o ≡ Some s) }
+    ensures each { IfOk result (λ o. (s : Statement) → IsFitStatement s → dest_of s ≡ dest → name_of s ≡ mnemonic
+        → words_left words.entry ≡ operands_of s → o ≡ Some s) }
 {
     if let Mnemonic::Call = mnemonic {
         return call(alloc, dest, words);
     }
     match dest {
         Some(d) => Ok(gets(d, mnemonic, words)),
-        None => Ok(plain(mnemonic, words)),
+        None => Ok(fixed(mnemonic, words)),
     }
 }
 
@@ -95,7 +97,8 @@ fn call(alloc: Global, dest: Option<u32>, words: Words<'_>) -> Result<Option<Sta
     requires { AreWords (option_to_list dest) }
     ensures found { IfOk result (λ o. IfSome o (λ s. gets_if_some dest (codes "call" ∷ words_left words.entry) ≡ statement_parts s)) }
     ensures fit { IfOk result (λ o. IfSome o IsFitStatement) }
-    ensures each { IfOk result (λ o. (p n : ℕ) (args : List ℕ) → IsPid p → n < 2 ^ 32 → AreWords args → length args ≤ max_parameters → words_left words.entry ≡ decimal p ∷ codes "count" ∷ decimal n ∷ map reg args → o ≡ Some (Statement.Instr (instr.Call dest p n args))) }
+    ensures each { IfOk result (λ o. (p n : ℕ) (args : List ℕ) → IsPid p → n < 2 ^ 32 → AreWords args → length args ≤ max_parameters
+        → words_left words.entry ≡ decimal p ∷ codes "count" ∷ decimal n ∷ map reg args → o ≡ Some (Statement.Instr (instr.Call dest p n args))) }
 {
     let Some((callee, count, words)) = callee_and_count(words) else {
         return Ok(None);
@@ -115,7 +118,8 @@ fn call(alloc: Global, dest: Option<u32>, words: Words<'_>) -> Result<Option<Sta
 fn callee_and_count(words: Words<'_>) -> Option<(u32, u32, Words<'_>)>
     ensures found { IfSome result (λ x. words_left words.entry ≡ decimal x.0 ∷ codes "count" ∷ decimal x.1 ∷ words_left x.2) }
     ensures range { IfSome result (λ x. IsPid x.0 × (x.1 < 2 ^ 32)) }
-    ensures each { (p n : ℕ) (ws : List (List ℕ)) → IsPid p → n < 2 ^ 32 → words_left words.entry ≡ decimal p ∷ codes "count" ∷ decimal n ∷ ws → IsCallHead result p n ws }
+    ensures each { (p n : ℕ) (ws : List (List ℕ)) → IsPid p → n < 2 ^ 32 → words_left words.entry ≡ decimal p ∷ codes "count" ∷ decimal n ∷ ws
+        → IsCallHead result p n ws }
 {
     let (callee, words) = count(words)?;
     if callee >= limits::PIDS {
@@ -171,7 +175,7 @@ fn gets(d: u32, mnemonic: Mnemonic, words: Words<'_>) -> Option<Statement>
 }
 
 /// A statement that no register gets, but for calls: its name stands before its operands.
-fn plain(mnemonic: Mnemonic, words: Words<'_>) -> Option<Statement>
+fn fixed(mnemonic: Mnemonic, words: Words<'_>) -> Option<Statement>
     ensures found { IfSome result (λ s. mnemonic_text mnemonic ∷ words_left words.entry ≡ statement_parts s) }
     ensures fit { IfSome result IsFitStatement }
     ensures each { AnswersPlain mnemonic (words_left words.entry) result }

@@ -25,7 +25,8 @@ used = refl
 no_main_either : refusal (mark (enter Declared (102 ∷ []) (Function (Some Int) []) [] []) 0) ≡ Some (Undefined 0)
 no_main_either = refl
 
-other_main_either : refusal (enter Defined main_name (Function None []) [] (mark (enter Declared (102 ∷ []) (Function (Some Int) []) [] []) 0)) ≡ Some (Undefined 0)
+other_main_either : refusal (enter Defined main_name (Function None []) [] (mark (enter Declared (102 ∷ []) (Function (Some Int) []) [] []) 0)) ≡ Some
+    (Undefined 0)
 other_main_either = refl
 
 nothing : refusal [] ≡ Some NoMain

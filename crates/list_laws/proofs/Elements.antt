@@ -1,5 +1,6 @@
 -- Lists after an element was replaced or added, and from a place on.
-use Rattle.std.proofs.Common.{◌≡◌, ℕ, zero, suc, ◌+◌, ◌<◌, ◌≤◌, Bool, true, false, ◌||◌, List, [], ◌∷◌, ◌++◌, length, take, drop, get_or, Some, None, refl, sym, ap, ◌∙◌, subst, arith, sum_by, add-one, append_assoc}
+use Rattle.std.proofs.Common.{◌≡◌, ℕ, zero, suc, ◌+◌, ◌<◌, ◌≤◌, Bool, true, false, ◌||◌, List, [], ◌∷◌, ◌++◌, length, take, drop, get_or, Some, None}
+use Rattle.std.proofs.Common.{refl, sym, ap, ◌∙◌, subst, arith, sum_by, add-one, append_assoc}
 use Rattle.std.specs.List.{AllByRecursion, list_any, slice_get, slice_set}
 use Rattle.std.proofs.lemmas.List.{drop_more, get_or_read}
 use Rattle.std.proofs.lemmas.List.Sums.{sum_by-cons}
@@ -51,7 +52,8 @@ all_at P (y ∷ xs) zero x h k = let e : y ≡ x = (let c : Some y ≡ Some x = 
 all_at P (y ∷ xs) (suc i) x h k = all_at P xs i x h.1 k
 
 -- what holds of the first n elements, after one of them was replaced
-pub front_set : {X : Type 0} (P : X → Type 0) (n : ℕ) (xs : List X) (i : ℕ) (v : X) → AllByRecursion P (take n xs) → (i < n → P v) → AllByRecursion P (take n (slice_set xs i v))
+pub front_set : {X : Type 0} (P : X → Type 0) (n : ℕ) (xs : List X) (i : ℕ) (v : X) → AllByRecursion P (take n xs) → (i < n → P v)
+    → AllByRecursion P (take n (slice_set xs i v))
 front_set P zero xs i v h k = tt
 front_set P (suc n) [] i v h k = tt
 front_set P (suc n) (y ∷ xs) zero v h k = (k (omega arith), h.1)
@@ -63,13 +65,15 @@ front_less P (suc m) zero xs l h = absurd (omega arith)
 front_less P (suc m) (suc n) [] l h = tt
 front_less P (suc m) (suc n) (y ∷ xs) l h = (h.0, front_less P m n xs (omega arith) h.1)
 
-front_suc : {X : Type 0} (P : X → Type 0) (n : ℕ) (xs : List X) (x : X) → AllByRecursion P (take n xs) → slice_get xs n ≡ Some x → P x → AllByRecursion P (take (suc n) xs)
+front_suc : {X : Type 0} (P : X → Type 0) (n : ℕ) (xs : List X) (x : X) → AllByRecursion P (take n xs) → slice_get xs n ≡ Some x → P x
+    → AllByRecursion P (take (suc n) xs)
 front_suc P zero [] x h k p = tt
 front_suc P zero (y ∷ xs) x h k p = let e : y ≡ x = (let c : Some y ≡ Some x = k in cc) in (subst P (sym e) p, tt)
 front_suc P (suc n) [] x h k p = tt
 front_suc P (suc n) (y ∷ xs) x h k p = (h.0, front_suc P n xs x h.1 k p)
 
-pub front_more : {X : Type 0} (P : X → Type 0) (n : ℕ) (xs : List X) (x : X) → AllByRecursion P (take n xs) → slice_get xs n ≡ Some x → P x → AllByRecursion P (take (n + 1) xs)
+pub front_more : {X : Type 0} (P : X → Type 0) (n : ℕ) (xs : List X) (x : X) → AllByRecursion P (take n xs) → slice_get xs n ≡ Some x → P x
+    → AllByRecursion P (take (n + 1) xs)
 front_more P n xs x h k p = subst (λ m. AllByRecursion P (take m xs)) (sym (add-one n)) (front_suc P n xs x h k p)
 
 pub front_at : {X : Type 0} (P : X → Type 0) (n : ℕ) (xs : List X) (i : ℕ) (x : X) → AllByRecursion P (take n xs) → i < n → slice_get xs i ≡ Some x → P x

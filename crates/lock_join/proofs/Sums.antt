@@ -19,7 +19,8 @@ total-snoc [] m = omega arith
 total-snoc (x ∷ xs) m = let e = total-snoc xs m in omega arith
 
 -- one more in the number, and one more in a note
-pub one_more : (number note : ℕ) (notes : List (Option ℕ)) (i : ℕ) → get_elem? notes i ≡ some (Some note) → IsSum number notes → IsSum ((number + 1) % 2 ^ 64) (set notes i (Some (note + 1)))
+pub one_more : (number note : ℕ) (notes : List (Option ℕ)) (i : ℕ) → get_elem? notes i ≡ some (Some note) → IsSum number notes
+    → IsSum ((number + 1) % 2 ^ 64) (set notes i (Some (note + 1)))
 one_more number note notes i at is = let t = total-set notes i (Some note) (Some (note + 1)) at in omega arith
 
 -- a new note of nothing
@@ -27,23 +28,30 @@ pub nothing_more : (number : ℕ) (notes : List (Option ℕ)) → IsSum number n
 nothing_more number notes is = let t = total-snoc notes (Some 0) in omega arith
 
 -- one note for two
-pub both_in_one : (number one two : ℕ) (notes : List (Option ℕ)) (i j : ℕ) → i ≢ j → get_elem? notes i ≡ some (Some one) → get_elem? notes j ≡ some (Some two) → IsSum number notes
+pub both_in_one : (number one two : ℕ) (notes : List (Option ℕ)) (i j : ℕ) → i ≢ j → get_elem? notes i ≡ some (Some one) → get_elem? notes j ≡ some (Some two)
+    → IsSum number notes
     → IsSum number (set (set notes i (Some (one + two))) j None)
 both_in_one number one two notes i j apart at_one at_two is =
     let t = total-set notes i (Some one) (Some (one + two)) at_one in
-    let u = total-set (set notes i (Some (one + two))) j (Some two) None (get-set_else notes i j (Some (one + two)) (λ e. apart (sym e)) ∙ at_two) in omega arith
+    let u = total-set (set notes i (Some (one + two))) j (Some two) None (get-set_else notes i j (Some (one + two)) (λ e. apart (sym e)) ∙ at_two)
+    in omega arith
 
 nothing : (ms : List (Option ℕ)) → ((j : ℕ) (m : Option ℕ) → get_elem? ms j ≡ some m → m ≡ None) → total ms ≡ 0
 nothing [] none = refl
 nothing (x ∷ xs) none = let a : part_of x ≡ 0 = ap part_of (none 0 x refl) in let b = nothing xs (λ j m e. none (suc j) m e) in omega arith
 
 -- the only note is the sum
-pub only : (ms : List (Option ℕ)) (i n : ℕ) → get_elem? ms i ≡ some (Some n) → ((j : ℕ) (m : Option ℕ) → j ≢ i → get_elem? ms j ≡ some m → m ≡ None) → total ms ≡ n
+pub only : (ms : List (Option ℕ)) (i n : ℕ) → get_elem? ms i ≡ some (Some n) → ((j : ℕ) (m : Option ℕ) → j ≢ i → get_elem? ms j ≡ some m → m ≡ None)
+    → total ms ≡ n
 only [] i n at others = absurd (base.some-ne-none (Some n) (sym at))
-only (x ∷ xs) zero n at others = let a : part_of x ≡ n = ap part_of (base.some-injective x (Some n) at) in let b = nothing xs (λ j m e. others (suc j) m (λ s. omega arith) e) in omega arith
-only (x ∷ xs) (suc i) n at others = let a : part_of x ≡ 0 = ap part_of (others 0 x (λ s. omega arith) refl) in let b = only xs i n at (λ j m ne e. others (suc j) m (λ s. ne (omega arith)) e) in omega arith
+only (x ∷ xs) zero n at others = let a : part_of x ≡ n = ap part_of (base.some-injective x (Some n) at) in let b = nothing xs
+    (λ j m e. others (suc j) m (λ s. omega arith) e) in omega arith
+only (x ∷ xs) (suc i) n at others = let a : part_of x ≡ 0 = ap part_of (others 0 x (λ s. omega arith) refl) in let b = only xs i n at
+    (λ j m ne e. others (suc j) m (λ s. ne (omega arith)) e) in omega arith
 
 -- what the last pass has noted is the number
-pub counted : (place : ℕ) (v : Option (Known (Unit {0}) ℕ ℕ)) (number note : ℕ) → note_of v ≡ Some note → note < 2 ^ 64 → StandsAlone (λ u x notes. IsSum x notes) place v number → number ≡ note
+pub counted : (place : ℕ) (v : Option (Known (Unit {0}) ℕ ℕ)) (number note : ℕ) → note_of v ≡ Some note → note < 2 ^ 64
+    → StandsAlone (λ u x notes. IsSum x notes) place v number → number ≡ note
 counted place None number note e small s = absurd cc
-counted place (Some k) number note e small s = let t = only s.notes place note (s.mine ∙ ap some e) s.others in let is : number ≡ total s.notes % 2 ^ 64 = s.rule in omega arith
+counted place (Some k) number note e small s = let t = only s.notes place note (s.mine ∙ ap some e) s.others in let is : number ≡ total s.notes % 2 ^ 64 =
+    s.rule in omega arith

@@ -27,9 +27,11 @@ set-again (x ∷ xs) zero a e = λ k. sym (base.some-injective x a e) k ∷ xs
 set-again (x ∷ xs) (suc i) a e = λ k. x ∷ set-again xs i a e k
 
 -- what two halves did is what the whole was to do
-pub in_halves : (share half times note fresh one two : ℕ) → half ≤ share → fresh ≡ 0 → one ≡ note + (share - half) * times → two ≡ fresh + half * times → one + two ≡ note + share * times
+pub in_halves : (share half times note fresh one two : ℕ) → half ≤ share → fresh ≡ 0 → one ≡ note + (share - half) * times → two ≡ fresh + half * times
+    → one + two ≡ note + share * times
 in_halves share half times note fresh one two less none e f =
-    let whole : (share - half) + half ≡ share = omega arith in let split = add-mul (share - half) half times in let both : ((share - half) + half) * times ≡ share * times = ap (λ z. z * times) whole in omega arith
+    let whole : (share - half) + half ≡ share = omega arith in let split = add-mul (share - half) half times in let both : ((share - half) + half) * times ≡
+    share * times = ap (λ z. z * times) whole in omega arith
 
 same_some : {A : Type 0} (a b : A) → Some a ≡ Some b → a ≡ b
 same_some a b e = cc

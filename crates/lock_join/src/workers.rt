@@ -82,11 +82,13 @@ where
         unreachable!()
     };
     let first = move || -> (Pass<R>, R::Note)
-        requires { IsSync W.row × IsSend R.row × IsSend R.Name.row × IsSend R.State.row × IsSend R.Note.row × IsReady lock.now p note × (share_of (view_of p) ≡ rest) × (0 < rest) × (R.amount note + rest * times < 2 ^ 64) }
+        requires { IsSync W.row × IsSend R.row × IsSend R.Name.row × IsSend R.State.row × IsSend R.Note.row × IsReady lock.now p note ×
+            (share_of (view_of p) ≡ rest) × (0 < rest) × (R.amount note + rest * times < 2 ^ 64) }
         ensures { HasWorked lock.entry.now p result.0 result.1 × (R.amount result.1 ≡ R.amount note + rest * times) }
     { work_in_halves(rt, lock, p, note, rest, times) };
     let second = move || -> (Pass<R>, R::Note)
-        requires { IsSync W.row × IsSend R.row × IsSend R.Name.row × IsSend R.State.row × IsSend R.Note.row × IsReady lock.now q fresh × (share_of (view_of q) ≡ half) × (0 < half) × (R.amount fresh + half * times < 2 ^ 64) }
+        requires { IsSync W.row × IsSend R.row × IsSend R.Name.row × IsSend R.State.row × IsSend R.Note.row × IsReady lock.now q fresh ×
+            (share_of (view_of q) ≡ half) × (0 < half) × (R.amount fresh + half * times < 2 ^ 64) }
         ensures { HasWorked lock.entry.now q result.0 result.1 × (R.amount result.1 ≡ R.amount fresh + half * times) }
     { work_in_halves(rt, lock, q, fresh, half, times) };
     let ((mut p, one), (q, two)) = join(rt, first, second);

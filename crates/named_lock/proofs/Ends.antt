@@ -23,7 +23,8 @@ module _ {M S N : Type 0} (holds : M → S → List (Option N) → Type 0) where
   abbrev pub first_slot : S → Held S N
   first_slot x = record { state = Some x; intent = at_rest }
 
-  begins : (f : Founding M N) (x : S) → 0 < f.shares → holds f.name x (Some f.note ∷ []) → Keeps holds f.name f.shares (opening (0 ∷ []) (first_slot x ∷ []) (founder f))
+  begins : (f : Founding M N) (x : S) → 0 < f.shares → holds f.name x (Some f.note ∷ [])
+      → Keeps holds f.name f.shares (opening (0 ∷ []) (first_slot x ∷ []) (founder f))
   begins f x some_share rule = record {
     state = x;
     holder = 0;
@@ -38,15 +39,20 @@ module _ {M S N : Type 0} (holds : M → S → List (Option N) → Type 0) where
       some_one : (k l : Known M S N) → Some k ≡ Some l → k ≡ l
       some_one k l e = cc
 
-      first_known : (j : ℕ) (k : Known M S N) → get_elem? (Some (knows f.name f.note f.shares f.shares) ∷ []) j ≡ some (Some k) → (k.name ≡ f.name) × (k.all ≡ f.shares) × (0 < k.share)
-      first_known zero k e = subst (λ (z : Known M S N). (z.name ≡ f.name) × (z.all ≡ f.shares) × (0 < z.share)) (some_one _ k (base.some-injective _ (Some k) e)) (refl, refl, some_share)
+      first_known : (j : ℕ) (k : Known M S N) → get_elem? (Some (knows f.name f.note f.shares f.shares) ∷ []) j ≡ some (Some k)
+          → (k.name ≡ f.name) × (k.all ≡ f.shares) × (0 < k.share)
+      first_known zero k e = subst (λ (z : Known M S N). (z.name ≡ f.name) × (z.all ≡ f.shares) × (0 < z.share))
+          (some_one _ k (base.some-injective _ (Some k) e)) (refl, refl, some_share)
       first_known (suc j) k e = absurd (base.some-ne-none (Some k) (sym e))
 
-      first_view : (j : ℕ) (v : Option (View M S N)) → get_elem? (founder f ∷ []) j ≡ some v → FitsPass (record { state = x; holder = 0; gives = 0; word = 0; slots = some (first_slot x) ∷ [] }) j v
-      first_view zero v e = subst (FitsPass (record { state = x; holder = 0; gives = 0; word = 0; slots = some (first_slot x) ∷ [] }) 0) (base.some-injective _ v e) (record { number = refl; given = omega arith; seen = omega arith; turn = tt })
+      first_view : (j : ℕ) (v : Option (View M S N)) → get_elem? (founder f ∷ []) j ≡ some v
+          → FitsPass (record { state = x; holder = 0; gives = 0; word = 0; slots = some (first_slot x) ∷ [] }) j v
+      first_view zero v e = subst (FitsPass (record { state = x; holder = 0; gives = 0; word = 0; slots = some (first_slot x) ∷ [] }) 0)
+          (base.some-injective _ v e) (record { number = refl; given = omega arith; seen = omega arith; turn = tt })
       first_view (suc j) v e = absurd (base.some-ne-none v (sym e))
 
-  pub opens : (f : Founding M N) (x : S) (hs : List (Held S N)) → hs ≡ first_slot x ∷ [] → 0 < f.shares → holds f.name x (Some f.note ∷ []) → Keeps holds f.name f.shares (opening (0 ∷ []) hs (founder f))
+  pub opens : (f : Founding M N) (x : S) (hs : List (Held S N)) → hs ≡ first_slot x ∷ [] → 0 < f.shares → holds f.name x (Some f.note ∷ [])
+      → Keeps holds f.name f.shares (opening (0 ∷ []) hs (founder f))
   opens f x hs e some_share rule = subst (λ z. Keeps holds f.name f.shares (opening (0 ∷ []) z (founder f))) (sym e) (begins f x some_share rule)
 
 module _ {M S N : Type 0} (holds : M → S → List (Option N) → Type 0) (name : M) (all : ℕ) where
@@ -57,11 +63,13 @@ module _ {M S N : Type 0} (holds : M → S → List (Option N) → Type 0) (name
       let s = f.0 in let r = f.1.0 in let at = f.1.1 in let mine = r.fits id _ at in let m : Moment S N = moment r.state r.holder r.gives s in
       let turn : FitsTurn m id true (Some x) = subst (FitsTurn m id true) taken mine.turn in (
         f.4 0 empty (turn.3 refl),
-        subst (λ (z : S). Stands holds (place_of (Some k)) (known_of (Some k)) z) (sym turn.0) (stands holds name all s r id (record k { closing = true }) at placed),
+        subst (λ (z : S). Stands holds (place_of (Some k)) (known_of (Some k)) z) (sym turn.0)
+            (stands holds name all s r id (record k { closing = true }) at placed),
       )
 
   -- the slot is home without the state, and the rule held for the state as it was taken, with the note of the one pass
-  pub closed : (id : ℕ) (u v : Option (View M S N)) (x : S) (ws : List ℕ) (xs : List (Held S N)) → u ≡ with_close v → is_placed v ≡ true → taken_of (known_of v) ≡ Some x → share_of (known_of v) ≡ all_of (known_of v)
+  pub closed : (id : ℕ) (u v : Option (View M S N)) (x : S) (ws : List ℕ) (xs : List (Held S N)) → u ≡ with_close v → is_placed v ≡ true
+      → taken_of (known_of v) ≡ Some x → share_of (known_of v) ≡ all_of (known_of v)
       → Final (Seen (Keeps holds name all) id u) ws xs
       → (get_elem? xs 0 ≡ some empty) × StandsAlone holds (place_of v) (known_of v) x
   closed id u None x ws xs e placed taken has_all f = absurd cc

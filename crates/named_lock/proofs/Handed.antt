@@ -14,16 +14,32 @@ module _ {M S N : Type 0} where
   pub seen_me : (g : ℕ) (v : Option (View M S N)) (c : List (ℕ × Held S N)) (me : Mine M S N) → me ≡ (with_seen g v, c) → is_placed v ≡ true
       → (known_of me.0 ≡ known_of v) × (place_of me.0 ≡ place_of v) × (is_placed me.0 ≡ true) × (given_at me.0 ≡ given_at v) × (seen_at me.0 ≡ g)
   seen_me g None c me e placed = absurd cc
-  seen_me g (Some k) c me e placed = (ap (λ z. known_of z.0) e, ap (λ z. place_of z.0) e, ap (λ z. is_placed z.0) e ∙ placed, ap (λ z. given_at z.0) e, ap (λ z. seen_at z.0) e)
+  seen_me g (Some k) c me e placed = (
+    ap (λ z. known_of z.0) e,
+    ap (λ z. place_of z.0) e,
+    ap (λ z. is_placed z.0) e ∙ placed,
+    ap (λ z. given_at z.0) e,
+    ap
+        (λ z. seen_at z.0) e,
+  )
 
   -- of a pass that has given
   pub noted_me : (note : N) (g : ℕ) (v : Option (View M S N)) (me : Mine M S N) → me ≡ (with_note note g v, []) → is_placed v ≡ true
-      → (known_of me.0 ≡ noted note (known_of v)) × (place_of me.0 ≡ place_of v) × (is_placed me.0 ≡ true) × (given_at me.0 ≡ g) × (me.1 ≡ out_with (taken_of (known_of me.0)))
+      → (known_of me.0 ≡ noted note (known_of v)) × (place_of me.0 ≡ place_of v) × (is_placed me.0 ≡ true) × (given_at me.0 ≡ g) ×
+      (me.1 ≡ out_with (taken_of (known_of me.0)))
   noted_me note g None me e placed = absurd cc
-  noted_me note g (Some k) me e placed = (ap (λ z. known_of z.0) e, ap (λ z. place_of z.0) e, ap (λ z. is_placed z.0) e ∙ placed, ap (λ z. given_at z.0) e, ap (λ z. z.1) e ∙ sym (ap (λ z. out_with (taken_of (known_of z.0))) e))
+  noted_me note g (Some k) me e placed = (
+    ap (λ z. known_of z.0) e,
+    ap (λ z. place_of z.0) e,
+    ap (λ z. is_placed z.0) e ∙ placed,
+    ap (λ z. given_at z.0) e,
+    ap
+        (λ z. z.1) e ∙ sym (ap (λ z. out_with (taken_of (known_of z.0))) e),
+  )
 
   module _ {V K P : Type 0} (lock : Turnstile (Held S N) V K P) (p q : Token (Held S N) (Option (View M S N))) where
-    pub seen_pass : (g : ℕ) → q.seat.me ≡ (with_seen g p.seat.me.0, p.seat.me.1) → q.seat.table_id ≡ p.seat.table_id → q.given ≡ p.given → IsPassOf lock p → IsPassOf lock q
+    pub seen_pass : (g : ℕ) → q.seat.me ≡ (with_seen g p.seat.me.0, p.seat.me.1) → q.seat.table_id ≡ p.seat.table_id → q.given ≡ p.given → IsPassOf lock p
+        → IsPassOf lock q
     seen_pass g e same given pass = let f = seen_me g p.seat.me.0 p.seat.me.1 q.seat.me e pass.placed in record {
       same = same ∙ pass.same;
       placed = f.2;
@@ -31,7 +47,8 @@ module _ {M S N : Type 0} where
       given = given ∙ pass.given ∙ sym (ap (λ z. z % 2 ^ 63) f.3);
     }
 
-    pub noted_pass : (note : N) (g : ℕ) → q.seat.me ≡ (with_note note g p.seat.me.0, []) → q.seat.table_id ≡ p.seat.table_id → q.given ≡ g % 2 ^ 63 → IsPassOf lock p → IsPassOf lock q
+    pub noted_pass : (note : N) (g : ℕ) → q.seat.me ≡ (with_note note g p.seat.me.0, []) → q.seat.table_id ≡ p.seat.table_id → q.given ≡ g % 2 ^ 63
+        → IsPassOf lock p → IsPassOf lock q
     noted_pass note g e same given pass = let f = noted_me note g p.seat.me.0 q.seat.me e pass.placed in record {
       same = same ∙ pass.same;
       placed = f.2;

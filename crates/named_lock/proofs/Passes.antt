@@ -9,7 +9,8 @@ use Rattle.named_lock.specs.Known.{AreAllPasses, note_of, notes_of, share_of, al
 use Rattle.named_lock.specs.Rules.{Stands, StandsAlone}
 
 module _ {M S N : Type 0} where
-  pub shares-set : (ps : List (Option (Known M S N))) (i : ℕ) (v w : Option (Known M S N)) → get_elem? ps i ≡ some v → shares_of (set ps i w) + share_of v ≡ shares_of ps + share_of w
+  pub shares-set : (ps : List (Option (Known M S N))) (i : ℕ) (v w : Option (Known M S N)) → get_elem? ps i ≡ some v
+      → shares_of (set ps i w) + share_of v ≡ shares_of ps + share_of w
   shares-set [] i v w at = absurd (base.some-ne-none v (sym at))
   shares-set (x ∷ xs) zero v w at = let e : share_of x ≡ share_of v = ap share_of (base.some-injective x v at) in omega arith
   shares-set (x ∷ xs) (suc i) v w at = let e = shares-set xs i v w at in omega arith
@@ -23,11 +24,14 @@ module _ {M S N : Type 0} where
   one_share (x ∷ xs) zero v e = let h : share_of x ≡ share_of v = ap share_of (base.some-injective x v e) in omega arith
   one_share (x ∷ xs) (suc i) v e = let h = one_share xs i v e in omega arith
 
-  pub two_shares : (ps : List (Option (Known M S N))) (i j : ℕ) (v w : Option (Known M S N)) → i ≢ j → get_elem? ps i ≡ some v → get_elem? ps j ≡ some w → share_of v + share_of w ≤ shares_of ps
+  pub two_shares : (ps : List (Option (Known M S N))) (i j : ℕ) (v w : Option (Known M S N)) → i ≢ j → get_elem? ps i ≡ some v → get_elem? ps j ≡ some w
+      → share_of v + share_of w ≤ shares_of ps
   two_shares [] i j v w ne e f = absurd (base.some-ne-none v (sym e))
   two_shares (x ∷ xs) zero zero v w ne e f = absurd (ne refl)
-  two_shares (x ∷ xs) zero (suc j) v w ne e f = let a : share_of x ≡ share_of v = ap share_of (base.some-injective x v e) in let b = one_share xs j w f in omega arith
-  two_shares (x ∷ xs) (suc i) zero v w ne e f = let a : share_of x ≡ share_of w = ap share_of (base.some-injective x w f) in let b = one_share xs i v e in omega arith
+  two_shares (x ∷ xs) zero (suc j) v w ne e f = let a : share_of x ≡ share_of v = ap share_of (base.some-injective x v e) in let b = one_share xs j w f
+      in omega arith
+  two_shares (x ∷ xs) (suc i) zero v w ne e f = let a : share_of x ≡ share_of w = ap share_of (base.some-injective x w f) in let b = one_share xs i v e
+      in omega arith
   two_shares (x ∷ xs) (suc i) (suc j) v w ne e f = let h = two_shares xs i j v w (λ s. ne (ap suc s)) e f in omega arith
 
   -- what is so of each live pass
@@ -40,7 +44,8 @@ module _ {M S N : Type 0} where
   some_one : (k l : Known M S N) → Some k ≡ Some l → k ≡ l
   some_one k l e = cc
 
-  pub each_set : (name : M) (all : ℕ) (ps : List (Option (Known M S N))) (i : ℕ) (w : Known M S N) → Each name all ps → Fits name all w → Each name all (set ps i (Some w))
+  pub each_set : (name : M) (all : ℕ) (ps : List (Option (Known M S N))) (i : ℕ) (w : Known M S N) → Each name all ps → Fits name all w
+      → Each name all (set ps i (Some w))
   each_set name all ps i w each fits j k e = ⊎_elim
       (λ (t : (j ≡ i) × (Some w ≡ Some k)). subst (Fits name all) (some_one w k t.1) fits)
       (λ (t : (j ≢ i) × (get_elem? ps j ≡ some (Some k))). each j k t.1)
@@ -52,7 +57,8 @@ module _ {M S N : Type 0} where
       (λ (t : (j ≢ i) × (get_elem? ps j ≡ some (Some k))). each j k t.1)
       (at_set ps i j None (Some k) e)
 
-  pub each_snoc : (name : M) (all : ℕ) (ps : List (Option (Known M S N))) (w : Known M S N) → Each name all ps → Fits name all w → Each name all (ps ++ Some w ∷ [])
+  pub each_snoc : (name : M) (all : ℕ) (ps : List (Option (Known M S N))) (w : Known M S N) → Each name all ps → Fits name all w
+      → Each name all (ps ++ Some w ∷ [])
   each_snoc name all ps w each fits j k e = ⊎_elim
       (λ (t : get_elem? ps j ≡ some (Some k)). each j k t)
       (λ (t : Some w ≡ Some k). subst (Fits name all) (some_one w k t) fits)
@@ -67,7 +73,8 @@ module _ {M S N : Type 0} where
         each = each_set name all ps i l ps_all.each (same_name ∙ f.0, same_all ∙ f.1, omega (arith, f.2));
       }
 
-  note_back : (ps : List (Option (Known M S N))) (j : ℕ) (m : Option N) → get_elem? (notes_of ps) j ≡ some m → (v : Option (Known M S N)) × (get_elem? ps j ≡ some v) × (note_of v ≡ m)
+  note_back : (ps : List (Option (Known M S N))) (j : ℕ) (m : Option N) → get_elem? (notes_of ps) j ≡ some m
+      → (v : Option (Known M S N)) × (get_elem? ps j ≡ some v) × (note_of v ≡ m)
   note_back [] j m e = absurd (base.some-ne-none m (sym e))
   note_back (x ∷ xs) zero m e = (x, refl, base.some-injective (note_of x) m e)
   note_back (x ∷ xs) (suc j) m e = note_back xs j m e
@@ -80,7 +87,8 @@ module _ {M S N : Type 0} where
       let a = two_shares ps j i (Some l) (Some k) ne e at in let p = (ps_all.each j l e).2 in let t = ps_all.shares in absurd (omega arith)
 
   -- what the rule says of all passes, it says of one that has all shares alone
-  pub alone : (holds : M → S → List (Option N) → Type 0) (number : ℕ) (v : Option (Known M S N)) (x : S) → share_of v ≡ all_of v → Stands holds number v x → StandsAlone holds number v x
+  pub alone : (holds : M → S → List (Option N) → Type 0) (number : ℕ) (v : Option (Known M S N)) (x : S) → share_of v ≡ all_of v → Stands holds number v x
+      → StandsAlone holds number v x
   alone holds number None x has_all s = s
   alone holds number (Some k) x has_all s = record {
     notes = notes_of s.passes;

@@ -47,4 +47,5 @@ exchanged_one {V} {X} me new x y e f = f ∙ ap (λ (z : List (ℕ × X)). (me.0
 
 -- where a count of gives reads otherwise than it did, there have been more
 pub gone_on : (read told given gives seen : ℕ) → read ≡ gives % 2 ^ 63 → told ≡ given % 2 ^ 63 → read ≢ told → given ≤ gives → seen ≡ gives → given < seen
-gone_on read told given gives seen e f other more same = lt_of_le-ne (subst (λ z. given ≤ z) (sym same) more) (λ g. other (e ∙ ap (λ z. z % 2 ^ 63) (sym same ∙ sym g) ∙ sym f))
+gone_on read told given gives seen e f other more same = lt_of_le-ne (subst (λ z. given ≤ z) (sym same) more)
+    (λ g. other (e ∙ ap (λ z. z % 2 ^ 63) (sym same ∙ sym g) ∙ sym f))

@@ -29,7 +29,8 @@ module _ {M S N : Type 0} where
 abbrev pub founder : {M S N : Type 0} → Founding M N → Option (View M S N)
 founder f = Some record { known = knows f.name f.note f.shares f.shares; number = Some 0; given = 0; seen = 0; closing = false; intent = at_rest }
 
--- the lock at one moment, but for its passes: the state, wherever it is, the number of the pass that has the turn, where one has it, how many gives there have been, the word and the slot
+-- the lock at one moment, but for its passes: the state, wherever it is, the number of the pass that has the turn, where one has it, how many gives
+-- there have been, the word and the slot
 pub record Moment (S N : Type 0) : Type 0 where
   pub state : S
   pub holder : ℕ

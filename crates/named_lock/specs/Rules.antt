@@ -31,16 +31,19 @@ module _ {M S N : Type 0} (holds : M → S → List (Option N) → Type 0) where
   -- with whatever list of notes that has the pass's note at its number the rule holds for x, it holds for y with the pass's note replaced
   abbrev pub Replaces : ℕ → Option (Known M S N) → S → S → N → Type 0
   Replaces number None x y note = ⊤
-  Replaces number (Some k) x y note = (notes : List (Option N)) → get_elem? notes number ≡ some (Some k.note) → holds k.name x notes → holds k.name y (slice_set notes number (Some note))
+  Replaces number (Some k) x y note = (notes : List (Option N)) → get_elem? notes number ≡ some (Some k.note) → holds k.name x notes
+      → holds k.name y (slice_set notes number (Some note))
 
   -- wherever the rule holds for any state, it holds with the pass's note replaced by one note, and the other added for a new pass
   abbrev pub MaySplit : ℕ → Option (Known M S N) → N → N → Type 0
   MaySplit number None mine other = ⊤
-  MaySplit number (Some k) mine other = (x : S) (notes : List (Option N)) → get_elem? notes number ≡ some (Some k.note) → holds k.name x notes → holds k.name x (slice_set notes number (Some mine) ++ Some other ∷ [])
+  MaySplit number (Some k) mine other = (x : S) (notes : List (Option N)) → get_elem? notes number ≡ some (Some k.note) → holds k.name x notes
+      → holds k.name x (slice_set notes number (Some mine) ++ Some other ∷ [])
 
   -- wherever the rule holds for any state, it holds with one note in place of those of two passes
   abbrev pub MayEnd : ℕ → Option (Known M S N) → ℕ → Option (Known M S N) → N → Type 0
   MayEnd i None j w note = ⊤
   MayEnd i (Some k) j None note = ⊤
-  MayEnd i (Some k) j (Some l) note = (x : S) (notes : List (Option N)) → i ≢ j → get_elem? notes i ≡ some (Some k.note) → get_elem? notes j ≡ some (Some l.note) → holds k.name x notes
+  MayEnd i (Some k) j (Some l) note = (x : S) (notes : List (Option N)) → i ≢ j → get_elem? notes i ≡ some (Some k.note)
+      → get_elem? notes j ≡ some (Some l.note) → holds k.name x notes
       → holds k.name x (slice_set (slice_set notes i (Some note)) j None)

@@ -105,7 +105,14 @@ module _ {M S N : Type 0} where
   -- the new pass; it learns its number by its first look
   abbrev pub right_of : Option (View M S N) → Option (View M S N)
   right_of None = None
-  right_of (Some k) = Some record { known = knows k.known.name (note_or k.intent.other k.known.note) k.intent.share k.known.all; number = None; given = k.seen; seen = k.seen; closing = false; intent = at_rest }
+  right_of (Some k) = Some record {
+    known = knows k.known.name (note_or k.intent.other k.known.note) k.intent.share k.known.all;
+    number = None;
+    given = k.seen;
+    seen = k.seen;
+    closing = false;
+    intent = at_rest;
+  }
 
   -- the pass that takes in another
   abbrev pub both_of : Option (View M S N) → Option (View M S N) → Option (View M S N)

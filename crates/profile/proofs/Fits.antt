@@ -4,8 +4,8 @@ use Rattle.std.specs.Prelude.{codes}
 use Rattle.std.specs.Option.{option_map}
 use Rattle.std.specs.List.{AllByRecursion}
 use Rattle.std.proofs.lemmas.List.{length-map}
-use Rattle.text_lines.specs.Feeds.{HasNoFeed}
-use Rattle.text_lines.proofs.Plain.{plain_no_feed, join_no_feed, same_line, no_line}
+use Rattle.text_lines.specs.Lines.{HasNoFeed}
+use Rattle.text_lines.proofs.Spaceless.{plain_no_feed, join_no_feed, same_line, no_line}
 use Rattle.profile.specs.Counts.{Profiled}
 use Rattle.profile.specs.Names.{Names}
 use Rattle.profile.specs.Texts.{Line, IsLine, line_bytes, lines_text, text, set_by, set_by_all, ended, line_number, Begins, DoesNotFit}
@@ -51,7 +51,8 @@ behind_end [] (m ∷ ms) z a b e =
     let q = same_line (line_bytes m) (codes "end") (lines_text ms ++ tail) z (no_feed m b.0) end_feed (sym (split m ms tail) ∙ e) in
     absurd (not_end m b.0 q.0)
 behind_end (l ∷ ls) [] z a b e =
-    let q = same_line (codes "end") (line_bytes l) [] (lines_text ls ++ (codes "end" ++ 10 ∷ z)) end_feed (no_feed l a.0) (e ∙ split l ls (codes "end" ++ 10 ∷ z)) in
+    let q = same_line (codes "end") (line_bytes l) [] (lines_text ls ++ (codes "end" ++ 10 ∷ z)) end_feed (no_feed l a.0)
+    (e ∙ split l ls (codes "end" ++ 10 ∷ z)) in
     absurd (not_end l a.0 (sym q.0))
 behind_end (l ∷ ls) (m ∷ ms) z a b e =
     let q = same_line (line_bytes m) (line_bytes l) (lines_text ms ++ tail) (lines_text ls ++ (codes "end" ++ 10 ∷ z)) (no_feed m b.0) (no_feed l a.0)
@@ -103,7 +104,8 @@ pub onto_line : (xs line more : List ℕ) → (xs ++ (line ++ 10 ∷ [])) ++ mor
 onto_line xs line more = append_assoc xs (line ++ 10 ∷ []) more ∙ ap (λ (t : List ℕ). xs ++ t) (append_assoc line (10 ∷ []) more)
 
 -- a text that begins with the lines read and one more
-begun : (ls : List Line) (line : List ℕ) (b : Begins (ended (befores ls) ++ (line ++ 10 ∷ []))) → lines_text b.lines ++ tail ≡ lines_text ls ++ (line ++ 10 ∷ b.rest)
+begun : (ls : List Line) (line : List ℕ) (b : Begins (ended (befores ls) ++ (line ++ 10 ∷ [])))
+    → lines_text b.lines ++ tail ≡ lines_text ls ++ (line ++ 10 ∷ b.rest)
 begun ls line b = strip (lines_text b.lines ++ tail) (lines_text ls ++ (line ++ 10 ∷ b.rest))
     (b.spelled ∙ onto_line (ended (befores ls)) line b.rest ∙ ended_befores ls (line ++ 10 ∷ b.rest))
 
@@ -178,7 +180,8 @@ module _ (b rest : List ℕ) (p : Profiled) (n : ℕ) (s : SoFar b rest p n) whe
           ];
     }
 
-    pub one_more : (l : Line) → IsLine l → line ≡ line_bytes l → (q : Profiled) → q ≡ option_map (set_by l) p → (m : ℕ) → m ≡ min (n + 1) 4294967295 → SoFar b behind q m
+    pub one_more : (l : Line) → IsLine l → line ≡ line_bytes l → (q : Profiled) → q ≡ option_map (set_by l) p → (m : ℕ) → m ≡ min (n + 1) 4294967295
+        → SoFar b behind q m
     one_more l is spells q set m next_number = record {
       lines = s.lines ++ l ∷ [];
       are = all_snoc s.lines l s.are is;
@@ -211,7 +214,8 @@ module _ (b rest : List ℕ) (p : Profiled) (n : ℕ) (s : SoFar b rest p n) whe
         before = befores s.lines ++ codes "end" ∷ [];
         here = behind;
         bytes_are = ap behind_first here_is ∙ sym (ended_all behind);
-        number_is = next_number ∙ ap (λ (k : ℕ). min (k + 1) 4294967295) number_is ∙ capped_more (length (befores s.lines)) ∙ ap line_number (count_snoc_bytes (befores s.lines));
+        number_is = next_number ∙ ap (λ (k : ℕ). min (k + 1) 4294967295) number_is ∙ capped_more (length (befores s.lines)) ∙ ap line_number
+            (count_snoc_bytes (befores s.lines));
         feeds = feeds_snoc (befores s.lines) (first_feed, feeds s.lines s.are);
         fits = record {
           lines = s.lines;

@@ -2,9 +2,9 @@
 use Rattle.std.proofs.Common.{◌≡◌, ℕ, List, [], ◌∷◌, refl, sym, ap, ◌∙◌}
 use Rattle.std.specs.Prelude.{codes}
 use Rattle.std.specs.List.{join_with_byte}
-use Rattle.text_lines.specs.Feeds.{HasNoFeed}
+use Rattle.text_lines.specs.Lines.{HasNoFeed}
 use Rattle.text_lines.specs.Words.{words_of}
-use Rattle.text_lines.proofs.Plain.{ArePlain, decimal_plain, name_plain, join_words, words_joined, join_no_feed}
+use Rattle.text_lines.proofs.Spaceless.{ArePlain, decimal_plain, name_plain, join_words, words_joined, join_no_feed}
 use Rattle.profile.specs.Texts.{Line, Entry, Site, IsLine, line_words, line_bytes}
 
 words_plain : (l : Line) → IsLine l → ArePlain (line_words l)

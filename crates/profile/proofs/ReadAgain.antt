@@ -6,8 +6,8 @@ use Rattle.std.specs.List.{AllByRecursion, IsDistinct}
 use Rattle.std.specs.Map.{keys_of}
 use Rattle.std.proofs.lemmas.Bool.{cases_Bool, eqb-true}
 use Rattle.std.proofs.lemmas.Fmt.{decimal_injective}
-use Rattle.text_lines.specs.Feeds.{HasNoFeed}
-use Rattle.text_lines.proofs.Plain.{same_line}
+use Rattle.text_lines.specs.Lines.{HasNoFeed}
+use Rattle.text_lines.proofs.Spaceless.{same_line}
 use Rattle.profile.specs.Counts.{Profiled}
 use Rattle.profile.specs.Names.{Names, same_name}
 use Rattle.profile.specs.Reading.{IsReadAs}
@@ -68,7 +68,16 @@ first_line (b ∷ bs) = elim (cases_Bool (b == 10)) [
   | inl is ↦ inr ([], bs, ap (λ (c : ℕ). c ∷ bs) (eqb-true b 10 is), tt)
   | inr not ↦ elim (first_line bs) [
     | inl none ↦ inl ((λ e. absurd (let q : (b == 10) ≡ true = rw e refl in let r : true ≡ false = sym q ∙ not in cc)), none)
-    | inr f ↦ inr (b ∷ f.0, f.1, ap (λ (l : List ℕ). b ∷ l) f.2, ((λ e. absurd (let q : (b == 10) ≡ true = rw e refl in let r : true ≡ false = sym q ∙ not in cc)), f.3))
+    | inr f ↦ inr (
+      b ∷ f.0,
+      f.1,
+      ap (λ (l : List ℕ). b ∷ l) f.2,
+      (
+        (λ e.
+            absurd (let q : (b == 10) ≡ true = rw e refl in let r : true ≡ false = sym q ∙ not in cc)),
+        f.3,
+      ),
+    )
   ]
 ]
 
@@ -89,7 +98,8 @@ module _ (ns : Names) (ls : List Line) (of : AreOf ns ls) (are : AllByRecursion 
   pub written : (p : Profiled) → p ≡ Some ns → IsWritten bytes p
   written p named = record { names = ns; named = named; lines = ls; of = of; are = are; spelled = spelled }
 
-  pub read_again : AllByRecursion (λ e. HasEachOnce e.1) ns → IsDistinct same_name (keys_of ns) → (p q : Profiled) → p ≡ Some ns → IsReadAs bytes q → IsSameProfile p q
+  pub read_again : AllByRecursion (λ e. HasEachOnce e.1) ns → IsDistinct same_name (keys_of ns) → (p q : Profiled) → p ≡ Some ns → IsReadAs bytes q
+      → IsSameProfile p q
   read_again once distinct p q named r =
       let again = sets_again ns [] ls of once distinct in
       let lines = same_text (r.is_text).lines ls (r.is_text).are are (sym (r.is_text).spelled ∙ spelled) in

@@ -42,7 +42,8 @@ module _ {K V : Type 0} (eq : K → K → Bool) (k : K) (same : eq k k ≡ true)
     | inr not ↦ rw not (ap (λ (l : List (K × V)). e ∷ l) (insert_last es v w (behind e es not h)))
   ]
 
-keys_again : {V : Type 0} (done : List (List ℕ × V)) (n : List ℕ) (v w : V) (es : List (List ℕ × V)) → keys_of ((done ++ (n, w) ∷ []) ++ es) ≡ keys_of (done ++ (n, v) ∷ es)
+keys_again : {V : Type 0} (done : List (List ℕ × V)) (n : List ℕ) (v w : V) (es : List (List ℕ × V))
+    → keys_of ((done ++ (n, w) ∷ []) ++ es) ≡ keys_of (done ++ (n, v) ∷ es)
 keys_again [] n v w es = refl
 keys_again (d ∷ done) n v w es = ap (λ (l : List (List ℕ)). d.0 ∷ l) (keys_again done n v w es)
 
@@ -65,7 +66,8 @@ module _ (done : Names) (n : List ℕ) (new : lookup (same_name n) done ≡ None
       (ap or_nothing (lookup_last same_name n itself done t new))
       ∙ insert_last same_name n itself done t (record { entry = c; sites = insert_entry nat_eq sites k d }) new
 
-  sites_set : (before rest : List (ℕ × ℕ)) → IsDistinct nat_eq (keys_of (before ++ rest)) → set_by_all (site_lines n rest) (with_sites before) ≡ with_sites (before ++ rest)
+  sites_set : (before rest : List (ℕ × ℕ)) → IsDistinct nat_eq (keys_of (before ++ rest))
+      → set_by_all (site_lines n rest) (with_sites before) ≡ with_sites (before ++ rest)
   sites_set before [] distinct = ap with_sites (sym (append-nil before))
   sites_set before (s ∷ rest) distinct =
       let absent = absent_from_lookup (nat_eq s.0) before (absent_before nat_eq_equiv before rest s distinct) in
@@ -84,16 +86,24 @@ pub record SetsAgain (ls : List Line) (done ns : Names) : Type 0 where
   pub same : HaveSameCounts ns again
 
 -- the lines of names set the same counts
-pub sets_again : (ns done : Names) (ls : List Line) → AreOf ns ls → AllByRecursion (λ e. HasEachOnce e.1) ns → IsDistinct same_name (keys_of (done ++ ns)) → SetsAgain ls done ns
+pub sets_again : (ns done : Names) (ls : List Line) → AreOf ns ls → AllByRecursion (λ e. HasEachOnce e.1) ns → IsDistinct same_name (keys_of (done ++ ns))
+    → SetsAgain ls done ns
 sets_again [] done ls of once distinct = record { again = []; set = ap (λ (l : List Line). set_by_all l done) of ∙ sym (append-nil done); same = tt }
 sets_again (e ∷ ns) done ls of once distinct =
     let here = of.2 in
     let t : Tallied = record { entry = (e.1).entry; sites = here.sites } in
     let apart = IsDistinct-IsPermutation nat_eq nat_eq_equiv.symm _ _ (IsPermutation-map (λ s. s.0) (e.1).sites here.sites here.each) once.0 in
-    let first = ap (λ (l : List Line). set_by_all l done) here.are ∙ name_set done e.0 (absent_before nat_list_eq_equiv done ns e distinct) (e.1).entry here.sites apart in
+    let first = ap (λ (l : List Line). set_by_all l done) here.are ∙ name_set done e.0 (absent_before nat_list_eq_equiv done ns e distinct) (e.1).entry
+    here.sites apart in
     let others = sets_again ns (done ++ (e.0, t) ∷ []) of.1 of.3 once.1 (subst (IsDistinct same_name) (sym (keys_again done e.0 e.1 t ns)) distinct) in
     record {
       again = (e.0, t) ∷ others.again;
-      set = ap (λ (l : List Line). set_by_all l done) of.4 ∙ set_append of.0 of.1 done ∙ ap (set_by_all of.1) first ∙ others.set ∙ append_assoc done ((e.0, t) ∷ []) others.again;
-      same = (refl, refl, (λ k. lookup_permutation nat_eq_equiv (e.1).sites here.sites here.each apart (nat_eq k) (λ x y. nat_eq_equiv.congr k x y)), others.same);
+      set = ap (λ (l : List Line). set_by_all l done) of.4 ∙ set_append of.0 of.1 done ∙ ap (set_by_all of.1) first ∙ others.set ∙ append_assoc done
+          ((e.0, t) ∷ []) others.again;
+      same = (
+        refl,
+        refl,
+        (λ k. lookup_permutation nat_eq_equiv (e.1).sites here.sites here.each apart (nat_eq k) (λ x y. nat_eq_equiv.congr k x y)),
+        others.same,
+      );
     }

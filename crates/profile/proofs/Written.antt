@@ -37,7 +37,8 @@ sites_snoc n (r ∷ ss) s = ap (λ (t : List Line). Site n r.0 r.1 ∷ t) (sites
 pub adds_site : (n : List ℕ) (ss ts : List (ℕ × ℕ)) (s : ℕ × ℕ) (old mid new : List ℕ) → ts ≡ ss ++ s ∷ [] → Adds (site_lines n ss) old mid
     → Adds (Site n s.0 s.1 ∷ []) mid new → Adds (site_lines n ts) old new
 adds_site n ss ts s old mid new e a b =
-    subst (λ (t : List Line). Adds t old new) (sym (ap (site_lines n) e ∙ sites_snoc n ss s)) (adds_both (site_lines n ss) (Site n s.0 s.1 ∷ []) old mid new a b)
+    subst (λ (t : List Line). Adds t old new) (sym (ap (site_lines n) e ∙ sites_snoc n ss s))
+    (adds_both (site_lines n ss) (Site n s.0 s.1 ∷ []) old mid new a b)
 
 of_snoc : (ns : Names) (e : List ℕ × Tallied) (ls here : List Line) → AreOf ns ls → AreOfName e.0 e.1 here → AreOf (ns ++ e ∷ []) (ls ++ here)
 of_snoc [] e ls here a b = (here, [], b, refl, ap (λ (t : List Line). t ++ here) a ∙ sym (append-nil here))
@@ -67,7 +68,8 @@ none_before ns bs = record {
 }
 
 -- one name more
-pub one_more_name : (ns left rest : Names) (e : List ℕ × Tallied) (old mid new : List ℕ) → left ≡ e ∷ rest → AddsBefore ns left old mid → AddsName e.0 e.1 mid new
+pub one_more_name : (ns left rest : Names) (e : List ℕ × Tallied) (old mid new : List ℕ) → left ≡ e ∷ rest → AddsBefore ns left old mid
+    → AddsName e.0 e.1 mid new
     → AddsBefore ns rest old new
 one_more_name ns left rest e old mid new is a b = record {
   done = a.done ++ e ∷ [];

@@ -3,7 +3,7 @@ use Rattle.std.specs.Prelude.{◌≡◌, ℕ, ◌+◌, ◌^◌, ◌<◌, List, [
 use Rattle.std.specs.List.{AllByRecursion, join_with_byte}
 use Rattle.std.specs.Fmt.{decimal}
 use Rattle.hlo_num.specs.Name.{IsName}
-use Rattle.text_lines.specs.Feeds.{HasNoFeed}
+use Rattle.text_lines.specs.Lines.{HasNoFeed}
 use Rattle.profile.specs.Names.{Names, with_entry, with_site}
 
 -- `entry NAME COUNT`, or `site NAME K COUNT`

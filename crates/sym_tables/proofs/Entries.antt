@@ -11,7 +11,8 @@ use Rattle.sym_tables.specs.Table.{Table, same_name, pid_of, symbol_of, symbol_a
 use Rattle.sym_tables.proofs.Refusals.{set_met}
 
 -- what is wrong is never want of memory
-never_memory : (a b p : Bool) (fault : SymFault) → (if a then Some TypeClash else (if b then Some Duplicate else (if p then Some TooMany else None))) ≡ Some fault → fault ≡ Memory → ⊥
+never_memory : (a b p : Bool) (fault : SymFault)
+    → (if a then Some TypeClash else (if b then Some Duplicate else (if p then Some TooMany else None))) ≡ Some fault → fault ≡ Memory → ⊥
 never_memory true b p fault h m = cc
 never_memory false true p fault h m = cc
 never_memory false false true fault h m = cc
@@ -26,9 +27,12 @@ module _ (standing : Standing) (name : List ℕ) (said : Entity) (init : List Wo
       ∙ ap (set_met standing said init old at) known_there
 
   refusal_there : refusal standing name said init old ≡ refusal_of (symbol_at old at) standing said (set_met standing said init old at (symbol_at old at))
-  refusal_there = ap (λ o. refusal_of o standing said (enter standing name said init old)) known_there ∙ ap (refusal_of (symbol_at old at) standing said) made_there
+  refusal_there = ap (λ o. refusal_of o standing said (enter standing name said init old)) known_there ∙ ap (refusal_of (symbol_at old at) standing said)
+      made_there
 
-  pub entered_there : (pid : ℕ) (new : Table) → (pid ≡ at) × (new ≡ set_met standing said init old at (symbol_at old at)) × (refusal_of (symbol_at old at) standing said (set_met standing said init old at (symbol_at old at)) ≡ None) →
+  pub entered_there : (pid : ℕ) (new : Table)
+      → (pid ≡ at) × (new ≡ set_met standing said init old at (symbol_at old at)) ×
+      (refusal_of (symbol_at old at) standing said (set_met standing said init old at (symbol_at old at)) ≡ None) →
       IsEntered standing name said init old pid new
   entered_there pid new h = record {
     accepted = refusal_there ∙ h.2;
@@ -36,7 +40,9 @@ module _ (standing : Standing) (name : List ℕ) (said : Entity) (init : List Wo
     table = h.1 ∙ sym made_there;
   }
 
-  pub told_there : (fault : SymFault) (new : Table) → (new ≡ old) × (refusal_of (symbol_at old at) standing said (set_met standing said init old at (symbol_at old at)) ≡ Some fault) → IsRefused standing name said init old fault new
+  pub told_there : (fault : SymFault) (new : Table)
+      → (new ≡ old) × (refusal_of (symbol_at old at) standing said (set_met standing said init old at (symbol_at old at)) ≡ Some fault)
+      → IsRefused standing name said init old fault new
   told_there fault new h = record {
     unchanged = h.0;
     told = subst (λ r. IsTold r fault) (sym (refusal_there ∙ h.1)) refl;
@@ -54,7 +60,9 @@ module _ (standing : Standing) (name : List ℕ) (said : Entity) (init : List Wo
   refusal_new : refusal standing name said init old ≡ refusal_of None standing said (old ++ (name, met standing said init None) ∷ [])
   refusal_new = ap (λ o. refusal_of o standing said (enter standing name said init old)) none ∙ ap (refusal_of None standing said) made_new
 
-  pub entered_new : (pid : ℕ) (new : Table) → (pid ≡ length old) × (new ≡ old ++ (name, met standing said init None) ∷ []) × (refusal_of None standing said (old ++ (name, met standing said init None) ∷ []) ≡ None) →
+  pub entered_new : (pid : ℕ) (new : Table)
+      → (pid ≡ length old) × (new ≡ old ++ (name, met standing said init None) ∷ []) ×
+      (refusal_of None standing said (old ++ (name, met standing said init None) ∷ []) ≡ None) →
       IsEntered standing name said init old pid new
   entered_new pid new h = record {
     accepted = refusal_new ∙ h.2;
@@ -62,5 +70,6 @@ module _ (standing : Standing) (name : List ℕ) (said : Entity) (init : List Wo
     table = h.1 ∙ sym made_new;
   }
 
-  pub told_new : (fault : SymFault) (new : Table) → (new ≡ old) × IsTold (refusal_of None standing said (old ++ (name, met standing said init None) ∷ [])) fault → IsRefused standing name said init old fault new
+  pub told_new : (fault : SymFault) (new : Table) → (new ≡ old) × IsTold (refusal_of None standing said (old ++ (name, met standing said init None) ∷ [])) fault
+      → IsRefused standing name said init old fault new
   told_new fault new h = record { unchanged = h.0; told = subst (λ r. IsTold r fault) (sym refusal_new) h.1; memory = λ m. none }

@@ -22,18 +22,22 @@ length_keys [] = refl
 length_keys (e ∷ es) = ap suc (length_keys es)
 
 -- one more name is another one
-pub other_more : (syms : Table) (name : List ℕ) (at : ℕ) (key : List ℕ) (s : Symbol) → AllByRecursion (IsOther name) (take at (keys_of syms)) → slice_get syms at ≡ Some (key, s) → same_name name key ≡ false →
+pub other_more : (syms : Table) (name : List ℕ) (at : ℕ) (key : List ℕ) (s : Symbol) → AllByRecursion (IsOther name) (take at (keys_of syms))
+    → slice_get syms at ≡ Some (key, s) → same_name name key ≡ false →
     AllByRecursion (IsOther name) (take (at + 1) (keys_of syms))
 other_more syms name at key s h k o = front_more (IsOther name) at (keys_of syms) key h (key_at syms at key s k) o
 
-pub found_pid : (syms : Table) (name : List ℕ) (at : ℕ) (key : List ℕ) (s : Symbol) → AllByRecursion (IsOther name) (take at (keys_of syms)) → slice_get syms at ≡ Some (key, s) → same_name name key ≡ true → pid_of syms name ≡ Some at
+pub found_pid : (syms : Table) (name : List ℕ) (at : ℕ) (key : List ℕ) (s : Symbol) → AllByRecursion (IsOther name) (take at (keys_of syms))
+    → slice_get syms at ≡ Some (key, s) → same_name name key ≡ true → pid_of syms name ≡ Some at
 found_pid syms name at key s h k o = first_found (same_name name) (keys_of syms) at key h (key_at syms at key s k) o
 
-pub found_symbol : (syms : Table) (name : List ℕ) (at : ℕ) (key : List ℕ) (s : Symbol) → AllByRecursion (IsOther name) (take at (keys_of syms)) → slice_get syms at ≡ Some (key, s) → same_name name key ≡ true → symbol_of syms name ≡ Some s
+pub found_symbol : (syms : Table) (name : List ℕ) (at : ℕ) (key : List ℕ) (s : Symbol) → AllByRecursion (IsOther name) (take at (keys_of syms))
+    → slice_get syms at ≡ Some (key, s) → same_name name key ≡ true → symbol_of syms name ≡ Some s
 found_symbol syms name at key s h k o = (Found-position (same_name name) syms at (found_pid syms name at key s h k o)).value ∙ value_at syms at key s k
 
 pub none_pid : (syms : Table) (name : List ℕ) (at : ℕ) → AllByRecursion (IsOther name) (take at (keys_of syms)) → length syms ≤ at → pid_of syms name ≡ None
 none_pid syms name at h l = none_found (same_name name) (keys_of syms) at h (subst (λ n. n ≤ at) (sym (length_keys syms)) l)
 
-pub none_symbol : (syms : Table) (name : List ℕ) (at : ℕ) → AllByRecursion (IsOther name) (take at (keys_of syms)) → length syms ≤ at → symbol_of syms name ≡ None
+pub none_symbol : (syms : Table) (name : List ℕ) (at : ℕ) → AllByRecursion (IsOther name) (take at (keys_of syms)) → length syms ≤ at
+    → symbol_of syms name ≡ None
 none_symbol syms name at h l = (Missing-position (same_name name) syms (none_pid syms name at h l)).value

@@ -22,7 +22,8 @@ not_above m n h = grind (arith, nat_tests)
 
 pub within : (syms : Table) → is_past_limits syms ≡ false → Within syms
 within syms h =
-    let n = nat_lt max_names (length syms) in let r = nat_lt max_routines (routines syms) in let e = nat_lt max_elements (elements syms) in let w = list_any is_wide (values_of syms) in
+    let n = nat_lt max_names (length syms) in let r = nat_lt max_routines (routines syms) in let e = nat_lt max_elements (elements syms) in let w = list_any
+    is_wide (values_of syms) in
     let nre = or_first (n || r || e) w h in let nr = or_first (n || r) e nre in
     record {
       names = at_most max_names (length syms) (or_first n r nr);
@@ -33,13 +34,15 @@ within syms h =
 
 pub not_past : (syms : Table) → Within syms → is_past_limits syms ≡ false
 not_past syms k =
-    let a = not_above max_names (length syms) k.names in let b = not_above max_routines (routines syms) k.routines_few in let c = not_above max_elements (elements syms) k.elements_few in
+    let a = not_above max_names (length syms) k.names in let b = not_above max_routines (routines syms) k.routines_few in let c = not_above max_elements
+    (elements syms) k.elements_few in
     let d = k.narrow in
     ap (λ x. x || nat_lt max_routines (routines syms) || nat_lt max_elements (elements syms) || list_any is_wide (values_of syms)) a
     ∙ ap (λ x. false || x || nat_lt max_elements (elements syms) || list_any is_wide (values_of syms)) b
     ∙ ap (λ x. false || false || x || list_any is_wide (values_of syms)) c ∙ d
 
 -- by the numbers
-pub past_is : (syms : Table) (n r e p : ℕ) → length syms ≡ n → routines syms ≡ r → elements syms ≡ e → list_any is_wide (values_of syms) ≡ nat_lt max_parameters p →
+pub past_is : (syms : Table) (n r e p : ℕ) → length syms ≡ n → routines syms ≡ r → elements syms ≡ e
+    → list_any is_wide (values_of syms) ≡ nat_lt max_parameters p →
     is_past_limits syms ≡ (nat_lt max_names n || nat_lt max_routines r || nat_lt max_elements e || nat_lt max_parameters p)
 past_is syms n r e p a b c d = cc

@@ -32,7 +32,8 @@ words_composite (Array t f n) (Function s qs) h = let c : false ≡ true = h in 
 words_composite (Array t f n) (Scalar u g) h = let c : false ≡ true = h in absurd cc
 words_composite (Array t f None) (Array u g m) h = (omega arith, omega arith)
 words_composite (Array t f (Some n)) (Array u g None) h = (omega arith, omega arith)
-words_composite (Array t f (Some n)) (Array u g (Some m)) h = let e = same_length n m (and_right _ (lengths_agree (Some n) (Some m)) h) in (omega arith, omega arith)
+words_composite (Array t f (Some n)) (Array u g (Some m)) h = let e = same_length n m (and_right _ (lengths_agree (Some n) (Some m)) h)
+    in (omega arith, omega arith)
 
 params_composite : (a b : Entity) → compatible a b ≡ true → parameters (composite a b) ≡ parameters a
 params_composite (Function r ps) (Function s qs) h = refl
@@ -46,12 +47,14 @@ params_composite (Array t f n) (Scalar u g) h = let c : false ≡ true = h in ab
 params_composite (Array t f None) (Array u g m) h = refl
 params_composite (Array t f (Some n)) (Array u g m) h = refl
 
-pub fits_met : (standing : Standing) (said : Entity) (init : List Word) (s : Symbol) → compatible s.entity said ≡ true → FitsWords s → length init ≤ words said → FitsWords (met standing said init (Some s))
+pub fits_met : (standing : Standing) (said : Entity) (init : List Word) (s : Symbol) → compatible s.entity said ≡ true → FitsWords s → length init ≤ words said
+    → FitsWords (met standing said init (Some s))
 fits_met standing said init s h k l =
     let w = words_composite s.entity said h in let w0 = w.0 in let w1 = w.1 in
     elim (is_defined standing) as (λ b. length (if b then init else s.init) ≤ words (composite s.entity said)) [ true ↦ omega arith | false ↦ omega arith ]
 
-pub narrow_met : (standing : Standing) (said : Entity) (init : List Word) (s : Symbol) → compatible s.entity said ≡ true → is_wide s ≡ false → is_wide (met standing said init (Some s)) ≡ false
+pub narrow_met : (standing : Standing) (said : Entity) (init : List Word) (s : Symbol) → compatible s.entity said ≡ true → is_wide s ≡ false
+    → is_wide (met standing said init (Some s)) ≡ false
 narrow_met standing said init s h k = ap (nat_lt max_parameters) (params_composite s.entity said h) ∙ k
 
 later_declared : (a b : Standing) → is_declared a ≡ false → is_declared (later a b) ≡ false
@@ -79,5 +82,6 @@ declared_is Tentative h = refl
 declared_is Defined h = refl
 
 -- and what is defined isn't open
-pub defined_met : (standing : Standing) (said : Entity) (init : List Word) (s : Symbol) → (later s.standing standing ≡ Declared → ⊥) → is_open (met standing said init (Some s)) ≡ false
+pub defined_met : (standing : Standing) (said : Entity) (init : List Word) (s : Symbol) → (later s.standing standing ≡ Declared → ⊥)
+    → is_open (met standing said init (Some s)) ≡ false
 defined_met standing said init s h = and_false s.used _ (declared_is (later s.standing standing) h)

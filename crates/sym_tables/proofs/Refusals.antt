@@ -1,5 +1,6 @@
 -- When a declaration or definition is refused, by what the code has found.
-use Rattle.std.proofs.Common.{◌≡◌, ℕ, ◌+◌, ◌-◌, ◌≤◌, Bool, true, false, ◌&&◌, ◌||◌, List, [], ◌∷◌, ◌++◌, length, nat_lt, Option, Some, None, refl, sym, ap, ◌∙◌, arith}
+use Rattle.std.proofs.Common.{◌≡◌, ℕ, ◌+◌, ◌-◌, ◌≤◌, Bool, true, false, ◌&&◌, ◌||◌, List, [], ◌∷◌, ◌++◌, length, nat_lt, Option, Some, None, refl, sym}
+use Rattle.std.proofs.Common.{ap, ◌∙◌, arith}
 use Rattle.std.specs.List.{list_any}
 use Rattle.std.specs.Map.{values_of}
 use Rattle.hlo_num.specs.declared.word.Word.{Word}
@@ -27,20 +28,25 @@ module _ (standing : Standing) (said : Entity) (init : List Word) (syms : Table)
   pub clash : compatible s.entity said ≡ false → refusal_of known standing said (set_met standing said init syms at known) ≡ Some TypeClash
   clash h = ap (λ o. refusal_of o standing said (set_met standing said init syms at o)) k ∙ rw h refl
 
-  pub repeat : compatible s.entity said ≡ true → (is_defined standing && is_defined s.standing) ≡ true → refusal_of known standing said (set_met standing said init syms at known) ≡ Some Duplicate
+  pub repeat : compatible s.entity said ≡ true → (is_defined standing && is_defined s.standing) ≡ true
+      → refusal_of known standing said (set_met standing said init syms at known) ≡ Some Duplicate
   repeat h d = ap (λ o. refusal_of o standing said (set_met standing said init syms at o)) k ∙ rw (h, d) refl
 
-  pub many : compatible s.entity said ≡ true → (is_defined standing && is_defined s.standing) ≡ false → is_past_limits (set_met standing said init syms at (Some s)) ≡ true →
+  pub many : compatible s.entity said ≡ true → (is_defined standing && is_defined s.standing) ≡ false
+      → is_past_limits (set_met standing said init syms at (Some s)) ≡ true →
       refusal_of known standing said (set_met standing said init syms at known) ≡ Some TooMany
   many h d p = ap (λ o. refusal_of o standing said (set_met standing said init syms at o)) k ∙ rw (h, d, p) refl
 
-  pub none : compatible s.entity said ≡ true → (is_defined standing && is_defined s.standing) ≡ false → is_past_limits (set_met standing said init syms at (Some s)) ≡ false →
+  pub none : compatible s.entity said ≡ true → (is_defined standing && is_defined s.standing) ≡ false
+      → is_past_limits (set_met standing said init syms at (Some s)) ≡ false →
       refusal_of known standing said (set_met standing said init syms at known) ≡ None
   none h d p = ap (λ o. refusal_of o standing said (set_met standing said init syms at o)) k ∙ rw (h, d, p) refl
 
 -- the limits by the numbers, at a known name
-pub past_met : (standing : Standing) (said : Entity) (init : List Word) (syms : Table) (at : ℕ) (s : Symbol) (r e least n r' e' p : ℕ) (b : Bool) → IsKept syms r e least → n ≡ length syms → symbol_at syms at ≡ Some s → compatible s.entity said ≡ true →
-    (let v = met standing said init (Some s) in (r' + routine_part s.entity s.standing ≡ r + routine_part v.entity v.standing) × (e' + element_part s.entity s.standing ≡ e + element_part v.entity v.standing) × (p ≡ parameters v.entity)) →
+pub past_met : (standing : Standing) (said : Entity) (init : List Word) (syms : Table) (at : ℕ) (s : Symbol) (r e least n r' e' p : ℕ) (b : Bool)
+    → IsKept syms r e least → n ≡ length syms → symbol_at syms at ≡ Some s → compatible s.entity said ≡ true →
+    (let v = met standing said init (Some s) in (r' + routine_part s.entity s.standing ≡ r + routine_part v.entity v.standing) ×
+    (e' + element_part s.entity s.standing ≡ e + element_part v.entity v.standing) × (p ≡ parameters v.entity)) →
     b ≡ (nat_lt max_names n || nat_lt max_routines r' || nat_lt max_elements e' || nat_lt max_parameters p) →
     is_past_limits (set_met standing said init syms at (Some s)) ≡ b
 past_met standing said init syms at s r e least n r' e' p b kept len k h nums is =
@@ -56,19 +62,24 @@ past_met standing said init syms at s r e least n r' e' p b kept len k h nums is
     ∙ sym is
 
 -- and at a new one
-pub past_added : (syms : Table) (name : List ℕ) (v : Symbol) (r e least n p : ℕ) (b : Bool) → IsKept syms r e least → n ≡ length syms + 1 → p ≡ parameters v.entity →
-    b ≡ (nat_lt max_names n || nat_lt max_routines (r + routine_part v.entity v.standing) || nat_lt max_elements (e + element_part v.entity v.standing) || nat_lt max_parameters p) →
+pub past_added : (syms : Table) (name : List ℕ) (v : Symbol) (r e least n p : ℕ) (b : Bool) → IsKept syms r e least → n ≡ length syms + 1
+    → p ≡ parameters v.entity →
+    b ≡ (nat_lt max_names n || nat_lt max_routines (r + routine_part v.entity v.standing) || nat_lt max_elements (e + element_part v.entity v.standing) ||
+    nat_lt max_parameters p) →
     is_past_limits (syms ++ (name, v) ∷ []) ≡ b
 past_added syms name v r e least n p b kept len par is =
     let rc = kept.routines_counted in let ec = kept.elements_counted in
     let a = routines_added syms name v in let c = elements_added syms name v in
-    past_is (syms ++ (name, v) ∷ []) n (r + routine_part v.entity v.standing) (e + element_part v.entity v.standing) p (length_added syms name v ∙ sym len) (omega arith) (omega arith)
+    past_is (syms ++ (name, v) ∷ []) n (r + routine_part v.entity v.standing) (e + element_part v.entity v.standing) p (length_added syms name v ∙ sym len)
+    (omega arith) (omega arith)
     (wide_added syms name v (within syms kept.sound.limits) ∙ ap (nat_lt max_parameters) (sym par))
     ∙ sym is
 
 -- the numbers that the code computes for a known name
-pub routines_counted : (r a b : ℕ) (s : Symbol) (x y : Entity) (t u : Standing) → a ≤ r → a ≡ routine_part s.entity s.standing → b ≡ routine_part x t → x ≡ y → t ≡ u → (r - a + b) + routine_part s.entity s.standing ≡ r + routine_part y u
+pub routines_counted : (r a b : ℕ) (s : Symbol) (x y : Entity) (t u : Standing) → a ≤ r → a ≡ routine_part s.entity s.standing → b ≡ routine_part x t → x ≡ y
+    → t ≡ u → (r - a + b) + routine_part s.entity s.standing ≡ r + routine_part y u
 routines_counted r a b s x y t u l p q e f = let k : routine_part x t ≡ routine_part y u = ap (λ z. routine_part z t) e ∙ ap (routine_part y) f in omega arith
 
-pub elements_counted : (r a b : ℕ) (s : Symbol) (x y : Entity) (t u : Standing) → a ≤ r → a ≡ element_part s.entity s.standing → b ≡ element_part x t → x ≡ y → t ≡ u → (r - a + b) + element_part s.entity s.standing ≡ r + element_part y u
+pub elements_counted : (r a b : ℕ) (s : Symbol) (x y : Entity) (t u : Standing) → a ≤ r → a ≡ element_part s.entity s.standing → b ≡ element_part x t → x ≡ y
+    → t ≡ u → (r - a + b) + element_part s.entity s.standing ≡ r + element_part y u
 elements_counted r a b s x y t u l p q e f = let k : element_part x t ≡ element_part y u = ap (λ z. element_part z t) e ∙ ap (element_part y) f in omega arith

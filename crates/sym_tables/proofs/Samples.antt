@@ -61,7 +61,8 @@ zeros : objects tentative ≡ (record { pid = 0; words = 1; init = [] }) ∷ []
 zeros = refl
 
 -- int x = 5; int x; has the word 5
-stays : objects (enter Tentative (120 ∷ []) (Scalar Int false) [] (enter Defined (120 ∷ []) (Scalar Int false) ((record { 0 = 5 }) ∷ []) [])) ≡ (record { pid = 0; words = 1; init = (record { 0 = 5 }) ∷ [] }) ∷ []
+stays : objects (enter Tentative (120 ∷ []) (Scalar Int false) [] (enter Defined (120 ∷ []) (Scalar Int false) ((record { 0 = 5 }) ∷ []) [])) ≡
+    (record { pid = 0; words = 1; init = (record { 0 = 5 }) ∷ [] }) ∷ []
 stays = refl
 
 -- char a[]; and then extern char a[3];
@@ -97,5 +98,6 @@ used = refl
 then_defined : first_open (enter Defined (102 ∷ []) int_function [] (mark declared 0)) ≡ None
 then_defined = refl
 
-trims : trimmed ((record { 0 = 1 }) ∷ (record { 0 = 0 }) ∷ (record { 0 = 2 }) ∷ (record { 0 = 0 }) ∷ []) ≡ (record { 0 = 1 }) ∷ (record { 0 = 0 }) ∷ (record { 0 = 2 }) ∷ []
+trims : trimmed ((record { 0 = 1 }) ∷ (record { 0 = 0 }) ∷ (record { 0 = 2 }) ∷ (record { 0 = 0 }) ∷ []) ≡ (record { 0 = 1 }) ∷ (record { 0 = 0 }) ∷
+    (record { 0 = 2 }) ∷ []
 trims = refl

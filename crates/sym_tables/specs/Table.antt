@@ -1,6 +1,7 @@
 -- The names of the program: a list of names and what is known of them, in the order of their first mention. A name's
 -- place is its PID.
-use Rattle.std.specs.Prelude.{◌≡◌, ℕ, zero, suc, Bool, true, false, ◌&&◌, ◌||◌, List, [], ◌∷◌, length, take, Option, Some, None, if◌then◌else◌, nat_lt, nat_eq, sum_by, position}
+use Rattle.std.specs.Prelude.{◌≡◌, ℕ, zero, suc, Bool, true, false, ◌&&◌, ◌||◌, List, [], ◌∷◌, length, take, Option, Some, None, if◌then◌else◌, nat_lt}
+use Rattle.std.specs.Prelude.{nat_eq, sum_by, position}
 use Rattle.std.specs.Cmp.Lexicographic.{pointwise}
 use Rattle.std.specs.List.{list_any, position_or_len, slice_get}
 use Rattle.std.specs.Map.{keys_of, values_of, lookup}
@@ -74,7 +75,8 @@ is_wide s = nat_lt max_parameters (parameters s.entity)
 
 -- too many names, routines, array elements, or parameters of a function
 abbrev pub is_past_limits : Table → Bool
-is_past_limits syms = nat_lt max_names (length syms) || nat_lt max_routines (routines syms) || nat_lt max_elements (elements syms) || list_any is_wide (values_of syms)
+is_past_limits syms = nat_lt max_names (length syms) || nat_lt max_routines (routines syms) || nat_lt max_elements (elements syms) || list_any is_wide
+    (values_of syms)
 
 -- incompatible with what is known
 abbrev pub clashes : Option Symbol → Entity → Bool
@@ -89,7 +91,8 @@ repeats (Some known) standing = is_defined standing && is_defined known.standing
 -- the first thing that is wrong with a declaration or definition, by what is known of the name and by the table that
 -- it would make
 abbrev pub refusal_of : Option Symbol → Standing → Entity → Table → Option SymFault
-refusal_of known standing said after = if clashes known said then Some TypeClash else (if repeats known standing then Some Duplicate else (if is_past_limits after then Some TooMany else None))
+refusal_of known standing said after = if clashes known said then Some TypeClash
+    else (if repeats known standing then Some Duplicate else (if is_past_limits after then Some TooMany else None))
 
 abbrev pub refusal : Standing → List ℕ → Entity → List Word → Table → Option SymFault
 refusal standing name said init syms = refusal_of (symbol_of syms name) standing said (enter standing name said init syms)

@@ -1,5 +1,6 @@
 //! The program's names.
-ghost use Rattle.std.specs.Prelude.{◌≡◌, ◌≤◌, ◌<◌, ◌+◌, ◌^◌, ◌==◌, ◌++◌, ◌∷◌, [], length, min, nat_lt, ◌&&◌, ◌||◌, Some, None, IfSome, IfOk, IfErr, OnOk, if◌then◌else◌, slice_get};
+ghost use Rattle.std.specs.Prelude.{◌≡◌, ◌≤◌, ◌<◌, ◌+◌, ◌^◌, ◌==◌, ◌++◌, ◌∷◌, [], length, min, nat_lt, ◌&&◌, ◌||◌, Some, None, IfSome, IfOk, IfErr};
+ghost use Rattle.std.specs.Prelude.{OnOk, if◌then◌else◌, slice_get};
 ghost use Rattle.std.specs.Option.{option_map, option_copied};
 ghost use Rattle.std.specs.List.{IsDistinct};
 ghost use Rattle.std.specs.Map.{keys_of, lookup};
@@ -9,7 +10,8 @@ ghost use Rattle.sym_tables.specs.Entities.{words};
 ghost use Rattle.sym_tables.specs.Listing.{objects, shapes};
 ghost use Rattle.sym_tables.specs.Sound.{IsSound};
 ghost use Rattle.sym_tables.specs.Symbols.{is_defined, met};
-ghost use Rattle.sym_tables.specs.Table.{enter, first_open, initialised, mark, pid_of, refusal_of, same_name, symbol_at, symbol_of, IsEntered, IsRefused, IsTold};
+ghost use Rattle.sym_tables.specs.Table.{enter, first_open, initialised, mark, pid_of, refusal_of, same_name, symbol_at, symbol_of, IsEntered};
+ghost use Rattle.sym_tables.specs.Table.{IsRefused, IsTold};
 
 use crate::entity::{Entity, compatible, composite};
 use crate::fault::SymFault;
@@ -257,8 +259,10 @@ impl ProgramSyms {
     ) -> Result<u32, SymFault>
         requires there { at < length self.old }
         requires fits { length init ≤ words said }
-        ensures ok { IfOk result (λ pid. let known = symbol_at self.old at in let after = set_value_at self.old at (met standing said init known) in (pid ≡ at) × (self.new ≡ after) × (refusal_of known standing said after ≡ None)) }
-        ensures err { IfErr result (λ fault. let known = symbol_at self.old at in (self.new ≡ self.old) × (refusal_of known standing said (set_value_at self.old at (met standing said init known)) ≡ Some fault)) }
+        ensures ok { IfOk result (λ pid. let known = symbol_at self.old at in let after = set_value_at self.old at (met standing said init known) in (pid ≡ at)
+            × (self.new ≡ after) × (refusal_of known standing said after ≡ None)) }
+        ensures err { IfErr result (λ fault. let known = symbol_at self.old at in (self.new ≡ self.old) ×
+            (refusal_of known standing said (set_value_at self.old at (met standing said init known)) ≡ Some fault)) }
     {
         let (_, known) = self.symbols.get_index(at).unwrap();
         if !compatible(&known.entity, &said) {
@@ -294,8 +298,10 @@ impl ProgramSyms {
     ) -> Result<u32, SymFault>
         requires absent { symbol_of self.old name.now ≡ None }
         requires fits { length init ≤ words said }
-        ensures ok { IfOk result (λ pid. let after = self.old ++ (name.now, met standing said init None) ∷ [] in (pid ≡ length self.old) × (self.new ≡ after) × (refusal_of None standing said after ≡ None)) }
-        ensures err { IfErr result (λ fault. (self.new ≡ self.old) × IsTold (refusal_of None standing said (self.old ++ (name.now, met standing said init None) ∷ [])) fault) }
+        ensures ok { IfOk result (λ pid. let after = self.old ++ (name.now, met standing said init None) ∷ [] in (pid ≡ length self.old) × (self.new ≡ after) ×
+            (refusal_of None standing said after ≡ None)) }
+        ensures err { IfErr result (λ fault. (self.new ≡ self.old) × IsTold
+            (refusal_of None standing said (self.old ++ (name.now, met standing said init None) ∷ [])) fault) }
     {
         let at = self.symbols.len();
         let routines = self.routines + routine_part(&said, standing);

@@ -1,5 +1,6 @@
 -- Decimal numbers, and what reads them.
-use Rattle.std.proofs.Common.{◌≡◌, ◌≢◌, ℕ, zero, suc, ◌-◌, ◌^◌, ◌<◌, ◌≤◌, Bool, true, false, List, [], ◌∷◌, length, get_or, Option, Some, IfSome, Result, Ok, Err, refl, sym, ◌∙◌, ap, subst, arith, inl, inr}
+use Rattle.std.proofs.Common.{◌≡◌, ◌≢◌, ℕ, zero, suc, ◌-◌, ◌^◌, ◌<◌, ◌≤◌, Bool, true, false, List, [], ◌∷◌, length, get_or, Option, Some, IfSome}
+use Rattle.std.proofs.Common.{Result, Ok, Err, refl, sym, ◌∙◌, ap, subst, arith, inl, inr}
 use Rattle.std.specs.Prelude.{◌==◌, ◌||◌}
 use Rattle.std.specs.Result.{result_ok}
 use Rattle.std.specs.Fmt.{decimal, signed_decimal}
@@ -8,7 +9,8 @@ use Rattle.std.specs.Str.Parse.{AllDigits, digits_value, ParsesUnsigned}
 use Rattle.std.proofs.lemmas.Bool.{ne_eqb, eqb-false, cases_lt, lt-ltb, le-ltb}
 use Rattle.std.proofs.lemmas.Str.{IsUtf8-from_ascii}
 use Rattle.std.proofs.lemmas.Str.Parse.{IsNumeralModel, numerals_by_value, tells_digits, digit_at, parse_plain}
-use Rattle.std.proofs.lemmas.Fmt.{decimal_digit, first_decimal, digits_decimal, decimal-digits_value, decimal_injective, decimal_nonempty, IsAscii-decimal, parse-decimal}
+use Rattle.std.proofs.lemmas.Fmt.{decimal_digit, first_decimal, digits_decimal, decimal-digits_value, decimal_injective, decimal_nonempty}
+use Rattle.std.proofs.lemmas.Fmt.{IsAscii-decimal, parse-decimal}
 use Rattle.list_laws.proofs.Tests.{or_first, or_second}
 use Rattle.hlo_num.specs.Words.{signed}
 use Rattle.hlo_num.specs.declared.word.Word.{Word}
@@ -50,13 +52,15 @@ no_zero (b ∷ []) h some e = refl
 no_zero (b ∷ c ∷ bs) h some e = absurd (eqb-false b 48 (or_second (b == 43) (b == 48) h) e)
 
 -- digits that are read spell what is read, where nothing pads them
-pub read_is_spelled : {E : Type 0} (bs : List ℕ) (r : Result ℕ E) (o : Option ℕ) → o ≡ result_ok r → ParsesUnsigned 32 10 bs r → IfSome o (λ n. is_padded bs ≡ false → bs ≡ decimal n)
+pub read_is_spelled : {E : Type 0} (bs : List ℕ) (r : Result ℕ E) (o : Option ℕ) → o ≡ result_ok r → ParsesUnsigned 32 10 bs r
+    → IfSome o (λ n. is_padded bs ≡ false → bs ≡ decimal n)
 read_is_spelled {E} bs (Err e) o is h = subst (λ q. IfSome q (λ n. is_padded bs ≡ false → bs ≡ decimal n)) (sym is) tt
 read_is_spelled {E} bs (Ok x) o is h = subst (λ q. IfSome q (λ n. is_padded bs ≡ false → bs ≡ decimal n)) (sym is) (λ plain.
     let p = parse_plain own {E = E} 32 bs (Ok x) h (no_plus bs plain) in
     sym (ap decimal p.1 ∙ decimal-digits_value own bs p.0.0 p.0.1 (no_zero bs plain p.0.1) (omega (arith, p.0.2))))
 
-pub spelled_is_read : {E : Type 0} (bs : List ℕ) (r : Result ℕ E) (o : Option ℕ) → o ≡ result_ok r → ParsesUnsigned 32 10 bs r → (n : ℕ) → n < 2 ^ 32 → bs ≡ decimal n → o ≡ Some n
+pub spelled_is_read : {E : Type 0} (bs : List ℕ) (r : Result ℕ E) (o : Option ℕ) → o ≡ result_ok r → ParsesUnsigned 32 10 bs r → (n : ℕ) → n < 2 ^ 32
+    → bs ≡ decimal n → o ≡ Some n
 spelled_is_read bs r o is h n lt e = is ∙ ap result_ok (parse-decimal 32 n bs r lt (omega arith) e h)
 
 -- the first byte of a number is a digit
@@ -73,15 +77,18 @@ with_sign w n le lt e = rw (le-ltb w 2147483648 (omega arith)) (ap (λ m. 45 ∷
 -- a word with a sign is the one that the number is short of 2^32
 pub signed_negative : (w n : ℕ) → w < 2 ^ 32 → n < 2 ^ 32 → signed_decimal (signed w) ≡ 45 ∷ decimal n → (2 ^ 31 ≤ w) × (n ≡ 2 ^ 32 - w)
 signed_negative w n lt fits e = elim (cases_lt w (2 ^ 31)) [
-  | inl small ↦ let d : decimal w ≡ 45 ∷ decimal n = sym (without_sign w small) ∙ e in let low : 48 ≤ 45 = first_digit w 45 (decimal n) (omega arith) d in absurd (omega (arith, low))
-  | inr large ↦ let d : 45 ∷ decimal (2 ^ 32 - w) ≡ 45 ∷ decimal n = sym (with_sign w (2 ^ 32 - w) large lt refl) ∙ e in let tails : decimal (2 ^ 32 - w) ≡ decimal n = cc d in (large, sym (decimal_injective (2 ^ 32 - w) n (omega arith) (omega arith) tails))
+  | inl small ↦ let d : decimal w ≡ 45 ∷ decimal n = sym (without_sign w small) ∙ e in let low : 48 ≤ 45 = first_digit w 45 (decimal n) (omega arith) d
+      in absurd (omega (arith, low))
+  | inr large ↦ let d : 45 ∷ decimal (2 ^ 32 - w) ≡ 45 ∷ decimal n = sym (with_sign w (2 ^ 32 - w) large lt refl) ∙ e in let tails : decimal (2 ^ 32 - w) ≡
+      decimal n = cc d in (large, sym (decimal_injective (2 ^ 32 - w) n (omega arith) (omega arith) tails))
 ]
 
 -- a word without a sign is the number
 pub signed_nonnegative : (w n : ℕ) → w < 2 ^ 32 → n < 2 ^ 32 → signed_decimal (signed w) ≡ decimal n → (w < 2 ^ 31) × (w ≡ n)
 signed_nonnegative w n lt fits e = elim (cases_lt w (2 ^ 31)) [
   | inl small ↦ (small, decimal_injective w n (omega arith) (omega arith) (sym (without_sign w small) ∙ e))
-  | inr large ↦ let d : decimal n ≡ 45 ∷ decimal (2 ^ 32 - w) = sym e ∙ with_sign w (2 ^ 32 - w) large lt refl in let low : 48 ≤ 45 = first_digit n 45 (decimal (2 ^ 32 - w)) (omega arith) d in absurd (omega (arith, low))
+  | inr large ↦ let d : decimal n ≡ 45 ∷ decimal (2 ^ 32 - w) = sym e ∙ with_sign w (2 ^ 32 - w) large lt refl in let low : 48 ≤ 45 = first_digit n 45
+      (decimal (2 ^ 32 - w)) (omega arith) d in absurd (omega (arith, low))
 ]
 
 pub word_is : (n : ℕ) (w : Word) → n ≡ w.0 → Some (record { 0 = n }) ≡ Some w

@@ -1,4 +1,4 @@
 pub mod WordSplits
 pub mod LineSplits
 pub mod Decimals
-pub mod Plain
+pub mod Spaceless

@@ -3,7 +3,7 @@ use Rattle.std.proofs.Common.{◌≡◌, ℕ, suc, ◌+◌, ◌-◌, ◌<◌, �
 use Rattle.std.specs.Prelude.{◌==◌}
 use Rattle.std.proofs.lemmas.Bool.{cases_Bool, eqb-true, eqb-false}
 use Rattle.std.proofs.lemmas.List.{take_rest}
-use Rattle.text_lines.specs.Feeds.{line_len, HasNoFeed}
+use Rattle.text_lines.specs.Lines.{line_len, HasNoFeed}
 
 pub line_len_le : (bs : List ℕ) → line_len bs ≤ length bs
 line_len_le [] = omega arith

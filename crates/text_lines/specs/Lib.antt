@@ -1,3 +1,3 @@
-pub mod Feeds
+pub mod Lines
 pub mod Words
 pub mod Numerals

@@ -2,12 +2,12 @@
 //! numbers and program names that words spell.
 #![tactic(auto)]
 
-mod feeds;
+mod lines;
 mod names;
 mod numbers;
 mod words;
 
-pub use feeds::next_line;
+pub use lines::next_line;
 pub use names::{is_name, next_name};
 pub use numbers::{number, numbered, signed};
 pub use words::{Words, after, is_done, next, words_of};

@@ -1,5 +1,6 @@
 -- Spellings of numbers, their lengths, and that each number has one.
-use Rattle.std.proofs.Common.{◌≡◌, ℕ, zero, suc, ◌+◌, ◌-◌, ◌*◌, ◌/◌, ◌%◌, ◌^◌, ◌<◌, ◌≤◌, List, [], ◌∷◌, ◌++◌, length, take, drop, min, refl, sym, ap, ◌∙◌, subst, arith, take-append-drop, take-take, Result, Ok, Err, is_ok, if◌then◌else◌}
+use Rattle.std.proofs.Common.{◌≡◌, ℕ, zero, suc, ◌+◌, ◌-◌, ◌*◌, ◌/◌, ◌%◌, ◌^◌, ◌<◌, ◌≤◌, List, [], ◌∷◌, ◌++◌, length, take, drop, min, refl, sym, ap}
+use Rattle.std.proofs.Common.{◌∙◌, subst, arith, take-append-drop, take-take, Result, Ok, Err, is_ok, if◌then◌else◌}
 use Rattle.std.proofs.Math.Nat.{pow-suc}
 use Rattle.std.proofs.lemmas.List.{length-take-le}
 use Rattle.std.specs.Prelude.{OnOk}
@@ -12,17 +13,24 @@ more_bytes n x c bs e le h = (omega arith, omega arith, n / 128, omega arith, om
 pub last_byte : (n : ℕ) → n < 128 → IsSpelling n (n ∷ [])
 last_byte n lt = (lt, refl)
 
-pub three_spelled : (n x y : ℕ) → x ≡ n % 128 + 128 → y ≡ n / 128 % 128 + 128 → 128 ≤ n → 128 ≤ n / 128 → n / 128 / 128 < 128 → IsSpelling n (x ∷ y ∷ (n / 128 / 128) ∷ [])
-three_spelled n x y e f le le2 lt = more_bytes n x y ((n / 128 / 128) ∷ []) e le (more_bytes (n / 128) y (n / 128 / 128) [] f le2 (last_byte (n / 128 / 128) lt))
+pub three_spelled : (n x y : ℕ) → x ≡ n % 128 + 128 → y ≡ n / 128 % 128 + 128 → 128 ≤ n → 128 ≤ n / 128 → n / 128 / 128 < 128
+    → IsSpelling n (x ∷ y ∷ (n / 128 / 128) ∷ [])
+three_spelled n x y e f le le2 lt = more_bytes n x y ((n / 128 / 128) ∷ []) e le
+    (more_bytes (n / 128) y (n / 128 / 128) [] f le2 (last_byte (n / 128 / 128) lt))
 
-pub four_spelled : (n x y z : ℕ) → x ≡ n % 128 + 128 → y ≡ n / 128 % 128 + 128 → z ≡ n / 128 / 128 % 128 + 128 → 128 ≤ n → 128 ≤ n / 128 → 128 ≤ n / 128 / 128 → n / 128 / 128 / 128 < 128 → IsSpelling n (x ∷ y ∷ z ∷ (n / 128 / 128 / 128) ∷ [])
+pub four_spelled : (n x y z : ℕ) → x ≡ n % 128 + 128 → y ≡ n / 128 % 128 + 128 → z ≡ n / 128 / 128 % 128 + 128 → 128 ≤ n → 128 ≤ n / 128 → 128 ≤ n / 128 / 128
+    → n / 128 / 128 / 128 < 128 → IsSpelling n (x ∷ y ∷ z ∷ (n / 128 / 128 / 128) ∷ [])
 four_spelled n x y z e f g le le2 le3 lt = more_bytes n x y (z ∷ (n / 128 / 128 / 128) ∷ []) e le (three_spelled (n / 128) y z f g le2 le3 lt)
 
-pub five_spelled : (n w x y z : ℕ) → w ≡ n % 128 + 128 → x ≡ n / 128 % 128 + 128 → y ≡ n / 128 / 128 % 128 + 128 → z ≡ n / 128 / 128 / 128 % 128 + 128 → 128 ≤ n → 128 ≤ n / 128 → 128 ≤ n / 128 / 128 → 128 ≤ n / 128 / 128 / 128 → n / 128 / 128 / 128 / 128 < 128 → IsSpelling n (w ∷ x ∷ y ∷ z ∷ (n / 128 / 128 / 128 / 128) ∷ [])
-five_spelled n w x y z d e f g le le2 le3 le4 lt = more_bytes n w x (y ∷ z ∷ (n / 128 / 128 / 128 / 128) ∷ []) d le (four_spelled (n / 128) x y z e f g le2 le3 le4 lt)
+pub five_spelled : (n w x y z : ℕ) → w ≡ n % 128 + 128 → x ≡ n / 128 % 128 + 128 → y ≡ n / 128 / 128 % 128 + 128 → z ≡ n / 128 / 128 / 128 % 128 + 128 → 128 ≤ n
+    → 128 ≤ n / 128 → 128 ≤ n / 128 / 128 → 128 ≤ n / 128 / 128 / 128 → n / 128 / 128 / 128 / 128 < 128
+    → IsSpelling n (w ∷ x ∷ y ∷ z ∷ (n / 128 / 128 / 128 / 128) ∷ [])
+five_spelled n w x y z d e f g le le2 le3 le4 lt = more_bytes n w x (y ∷ z ∷ (n / 128 / 128 / 128 / 128) ∷ []) d le
+    (four_spelled (n / 128) x y z e f g le2 le3 le4 lt)
 
 -- a call that put the spelling at the end, or nothing
-pub put_at_end : {T E : Type 0} (r : Result T E) (old new bytes : List ℕ) (n : ℕ) → new ≡ (if is_ok r then old ++ bytes else old) → IsSpelling n bytes → OnOk r (Appends old new n)
+pub put_at_end : {T E : Type 0} (r : Result T E) (old new bytes : List ℕ) (n : ℕ) → new ≡ (if is_ok r then old ++ bytes else old) → IsSpelling n bytes
+    → OnOk r (Appends old new n)
 put_at_end (Ok x) old new bytes n e h = record { bytes = bytes; spelled = h; appended = e }
 put_at_end (Err f) old new bytes n e h = tt
 
@@ -69,7 +77,8 @@ one_form m n (b ∷ c ∷ us) (d ∷ f ∷ vs) xs ys e (low, high, rest, some, e
     omega arith
 
 pub one_number : (m n j k : ℕ) (bytes : List ℕ) → IsSpelling m (take j bytes) → IsSpelling n (take k bytes) → m ≡ n
-one_number m n j k bytes h g = one_form m n (take j bytes) (take k bytes) (drop j bytes) (drop k bytes) (take-append-drop j bytes ∙ sym (take-append-drop k bytes)) h g
+one_number m n j k bytes h g = one_form m n (take j bytes) (take k bytes) (drop j bytes) (drop k bytes)
+    (take-append-drop j bytes ∙ sym (take-append-drop k bytes)) h g
 
 -- the number of one more byte in front
 pub one_more : (n b k : ℕ) (bs : List ℕ) → 128 ≤ b → b < 256 → 0 < n → IsSpelling n (take k bs) → IsSpelling (128 * n + (b - 128)) (b ∷ take k bs)
@@ -78,7 +87,8 @@ one_more n b (suc k) [] le lt some h = absurd h
 one_more n b (suc k) (c ∷ bs) le lt some h = (le, lt, n, some, omega arith, h)
 
 -- a spelling whose first byte is above 127 goes on behind it
-pub goes_on : (n b k : ℕ) (bs : List ℕ) → 128 ≤ b → IsSpelling n (take k (b ∷ bs)) → (rest : ℕ) × (j : ℕ) × (0 < rest) × (n + 128 ≡ b + 128 * rest) × IsSpelling rest (take j bs)
+pub goes_on : (n b k : ℕ) (bs : List ℕ) → 128 ≤ b → IsSpelling n (take k (b ∷ bs))
+    → (rest : ℕ) × (j : ℕ) × (0 < rest) × (n + 128 ≡ b + 128 * rest) × IsSpelling rest (take j bs)
 goes_on n b zero bs le h = absurd h
 goes_on n b (suc zero) bs le h = absurd (let a = h.0 in omega arith)
 goes_on n b (suc (suc k)) [] le h = absurd (let a = h.0 in omega arith)
@@ -98,7 +108,8 @@ pub short : (n : ℕ) (bytes : List ℕ) → n < 2 ^ 32 → IsSpelling n bytes �
 short n bytes lt h = let wide : 128 ^ 5 ≡ 2 ^ 35 = refl in at_most 4 n bytes (omega arith) h
 
 -- so it lies in the first five
-pub in_five : (n k : ℕ) (bytes : List ℕ) → n < 2 ^ 32 → k ≤ length bytes → IsSpelling n (take k bytes) → IsSpelling n (take k (take (min (length bytes) 5) bytes))
+pub in_five : (n k : ℕ) (bytes : List ℕ) → n < 2 ^ 32 → k ≤ length bytes → IsSpelling n (take k bytes)
+    → IsSpelling n (take k (take (min (length bytes) 5) bytes))
 in_five n k bytes lt le h =
     let few : k ≤ 5 = omega (arith, short n (take k bytes) lt h, length-take-le k bytes le) in
     let same : take k (take (min (length bytes) 5) bytes) ≡ take k bytes = take-take k (min (length bytes) 5) bytes (omega arith) in

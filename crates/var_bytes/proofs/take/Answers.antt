@@ -10,4 +10,5 @@ returns-in_err-number-clause-none c = rw c.from_residual.ensures (λ n end lt wi
     let len = length-drop c.args.at c.args.b.now in
     let five : c.min.result ≡ min (length rest) 5 = omega (arith, c.min.ensures, len) in
     let inside : end - c.args.at ≤ length rest = omega (arith, len) in
-    c.in_err-number.ensures.none n (end - c.args.at) lt (rw take_rest (subst (λ m. IsSpelling n (take (end - c.args.at) (take m rest))) (sym five) (in_five n (end - c.args.at) rest lt inside h))))
+    c.in_err-number.ensures.none n (end - c.args.at) lt (rw take_rest
+    (subst (λ m. IsSpelling n (take (end - c.args.at) (take m rest))) (sym five) (in_five n (end - c.args.at) rest lt inside h))))

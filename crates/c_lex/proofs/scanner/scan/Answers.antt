@@ -17,14 +17,17 @@ use Rattle.c_lex.proofs.scanner.scan.Goals as goal
 told : (bs : List ℕ) (x : Result (Vec Token Global) LexFault) (e : LexFault) → x ≡ Err e → Faults (read bs Fresh start) e → IfErr x (λ f. IsFaultOf bs f)
 told bs x e q h = subst (λ z. IfErr z (λ f. IsFaultOf bs f)) (sym q) (fault_right bs e h)
 
-told_only : (bs : List ℕ) (x : Result (Vec Token Global) LexFault) (e : LexFault) → x ≡ Err e → Faults (read bs Fresh start) e → (ts : List Token) → IsText ts bs → MatchResult x (λ v. v.items ≡ ts) (λ f. f ≡ Memory)
+told_only : (bs : List ℕ) (x : Result (Vec Token Global) LexFault) (e : LexFault) → x ≡ Err e → Faults (read bs Fresh start) e → (ts : List Token)
+    → IsText ts bs → MatchResult x (λ v. v.items ≡ ts) (λ f. f ≡ Memory)
 told_only bs x e q h ts t = subst (λ z. MatchResult z (λ v. v.items ≡ ts) (λ f. f ≡ Memory)) (sym q) (fault_only bs e h ts t)
 
 pub returns-then-is_empty-clause-tokens : goal.returns-then-is_empty-clause-tokens
-returns-then-is_empty-clause-tokens c = tokens_right c.args.b.now c.new-out.result.items (ap (λ z. read z Fresh start) (nothing_left c.args.b.now (sym c.is_empty.ensures ∙ c.if-is_empty.true)) ∙ ap Tokens (sym c.new-out.ensures.items))
+returns-then-is_empty-clause-tokens c = tokens_right c.args.b.now c.new-out.result.items
+    (ap (λ z. read z Fresh start) (nothing_left c.args.b.now (sym c.is_empty.ensures ∙ c.if-is_empty.true)) ∙ ap Tokens (sym c.new-out.ensures.items))
 
 pub returns-then-is_empty-clause-only : goal.returns-then-is_empty-clause-only
-returns-then-is_empty-clause-only c ts t = one_list (tokens_right c.args.b.now c.new-out.result.items (ap (λ z. read z Fresh start) (nothing_left c.args.b.now (sym c.is_empty.ensures ∙ c.if-is_empty.true)) ∙ ap Tokens (sym c.new-out.ensures.items))) t
+returns-then-is_empty-clause-only c ts t = one_list (tokens_right c.args.b.now c.new-out.result.items
+    (ap (λ z. read z Fresh start) (nothing_left c.args.b.now (sym c.is_empty.ensures ∙ c.if-is_empty.true)) ∙ ap Tokens (sym c.new-out.ensures.items))) t
 
 pub returns-in_err-r-clause-only : goal.returns-in_err-r-clause-only
 returns-in_err-r-clause-only c =
@@ -41,31 +44,38 @@ returns-in_err-r-clause-fault c =
 pub loop-r-init : goal.loop-r-init
 loop-r-init c =
     let k = open_right c.args.b.now (not_empty c.args.b.now (sym c.is_empty.ensures ∙ c.if-is_empty.false)) c.in_ok-r.r (sym c.open.ensures ∙ c.in_ok-r.was) in
-    record { opened = k.0; said = ap (λ z. before z (left c.args.b.now c.in_ok-r.r)) c.new-out.ensures.items ∙ before_none (left c.args.b.now c.in_ok-r.r) ∙ k.1 }
+    record {
+      opened = k.0;
+      said = ap (λ z. before z (left c.args.b.now c.in_ok-r.r)) c.new-out.ensures.items ∙ before_none (left c.args.b.now c.in_ok-r.r) ∙ k.1;
+    }
 
 pub returns-in_err-r-2-clause-only : goal.returns-in_err-r-2-clause-only
 returns-in_err-r-2-clause-only c =
     let p = err_from_is_err_and c.from_residual-in_err-r-2.result c.from_residual-in_err-r-2.ensures.1 in
     told_only c.args.b.now c.from_residual-in_err-r-2.result c.in_err-r-2.field-0.0 (p.1 ∙ ap Err p.2)
-    (before_faults c.loop-r.out.items (left c.args.b.now c.loop-r.r) (read c.args.b.now Fresh start) c.in_err-r-2.field-0.0 c.loop-r.invariant.said c.in_err-r-2.ensures)
+    (before_faults c.loop-r.out.items (left c.args.b.now c.loop-r.r) (read c.args.b.now Fresh start) c.in_err-r-2.field-0.0 c.loop-r.invariant.said
+    c.in_err-r-2.ensures)
 
 pub returns-in_err-r-2-clause-fault : goal.returns-in_err-r-2-clause-fault
 returns-in_err-r-2-clause-fault c =
     let p = err_from_is_err_and c.from_residual-in_err-r-2.result c.from_residual-in_err-r-2.ensures.1 in
     told c.args.b.now c.from_residual-in_err-r-2.result c.in_err-r-2.field-0.0 (p.1 ∙ ap Err p.2)
-    (before_faults c.loop-r.out.items (left c.args.b.now c.loop-r.r) (read c.args.b.now Fresh start) c.in_err-r-2.field-0.0 c.loop-r.invariant.said c.in_err-r-2.ensures)
+    (before_faults c.loop-r.out.items (left c.args.b.now c.loop-r.r) (read c.args.b.now Fresh start) c.in_err-r-2.field-0.0 c.loop-r.invariant.said
+    c.in_err-r-2.ensures)
 
 pub returns-in_err-finish-clause-only : goal.returns-in_err-finish-clause-only
 returns-in_err-finish-clause-only c =
     let p = err_from_is_err_and c.from_residual-in_err-finish.result c.from_residual-in_err-finish.ensures.1 in
     told_only c.args.b.now c.from_residual-in_err-finish.result c.in_err-finish.field-0.0 (p.1 ∙ ap Err p.2)
-    (before_faults c.loop-r.out.items (left c.args.b.now c.loop-r.r) (read c.args.b.now Fresh start) c.in_err-finish.field-0.0 c.loop-r.invariant.said c.in_err-finish.ensures)
+    (before_faults c.loop-r.out.items (left c.args.b.now c.loop-r.r) (read c.args.b.now Fresh start) c.in_err-finish.field-0.0 c.loop-r.invariant.said
+    c.in_err-finish.ensures)
 
 pub returns-in_err-finish-clause-fault : goal.returns-in_err-finish-clause-fault
 returns-in_err-finish-clause-fault c =
     let p = err_from_is_err_and c.from_residual-in_err-finish.result c.from_residual-in_err-finish.ensures.1 in
     told c.args.b.now c.from_residual-in_err-finish.result c.in_err-finish.field-0.0 (p.1 ∙ ap Err p.2)
-    (before_faults c.loop-r.out.items (left c.args.b.now c.loop-r.r) (read c.args.b.now Fresh start) c.in_err-finish.field-0.0 c.loop-r.invariant.said c.in_err-finish.ensures)
+    (before_faults c.loop-r.out.items (left c.args.b.now c.loop-r.r) (read c.args.b.now Fresh start) c.in_err-finish.field-0.0 c.loop-r.invariant.said
+    c.in_err-finish.ensures)
 
 pub returns-clause-tokens : goal.returns-clause-tokens
 returns-clause-tokens c = tokens_right c.args.b.now c.finish.new.out.items (sym c.loop-r.invariant.said ∙ c.in_ok-finish.ensures)
@@ -74,7 +84,10 @@ pub returns-clause-only : goal.returns-clause-only
 returns-clause-only c ts t = one_list (tokens_right c.args.b.now c.finish.new.out.items (sym c.loop-r.invariant.said ∙ c.in_ok-finish.ensures)) t
 
 pub returns-then-is_empty-clause-spans : goal.returns-then-is_empty-clause-spans
-returns-then-is_empty-clause-spans c = spans c.args.b.now c.new-out.result.items (tokens_right c.args.b.now c.new-out.result.items (ap (λ z. read z Fresh start) (nothing_left c.args.b.now (sym c.is_empty.ensures ∙ c.if-is_empty.true)) ∙ ap Tokens (sym c.new-out.ensures.items)))
+returns-then-is_empty-clause-spans c = spans c.args.b.now c.new-out.result.items
+    (tokens_right c.args.b.now c.new-out.result.items (ap (λ z. read z Fresh start) (nothing_left c.args.b.now (sym c.is_empty.ensures ∙ c.if-is_empty.true)) ∙
+    ap Tokens (sym c.new-out.ensures.items)))
 
 pub returns-clause-spans : goal.returns-clause-spans
-returns-clause-spans c = spans c.args.b.now c.finish.new.out.items (tokens_right c.args.b.now c.finish.new.out.items (sym c.loop-r.invariant.said ∙ c.in_ok-finish.ensures))
+returns-clause-spans c = spans c.args.b.now c.finish.new.out.items
+    (tokens_right c.args.b.now c.finish.new.out.items (sym c.loop-r.invariant.said ∙ c.in_ok-finish.ensures))

@@ -46,4 +46,6 @@ returns-in-ShiftRight c = c.with_equals-in-ShiftRight.ensures ∙ ap (λ m. join
 
 pub returns-in_default : goal.returns-in_default
 returns-in_default c =
-    sym (no_join c.args.m c.args.c c.in_default.not-Plus c.in_default.not-Minus c.in_default.not-Star c.in_default.not-Slash c.in_default.not-Percent c.in_default.not-Ampersand c.in_default.not-Bar c.in_default.not-Caret c.in_default.not-Exclamation c.in_default.not-Less c.in_default.not-Greater c.in_default.not-Equals c.in_default.not-ShiftLeft c.in_default.not-ShiftRight) ∙ joined_is c.args.m c.args.c
+    sym (no_join c.args.m c.args.c c.in_default.not-Plus c.in_default.not-Minus c.in_default.not-Star c.in_default.not-Slash c.in_default.not-Percent
+    c.in_default.not-Ampersand c.in_default.not-Bar c.in_default.not-Caret c.in_default.not-Exclamation c.in_default.not-Less c.in_default.not-Greater
+    c.in_default.not-Equals c.in_default.not-ShiftLeft c.in_default.not-ShiftRight) ∙ joined_is c.args.m c.args.c

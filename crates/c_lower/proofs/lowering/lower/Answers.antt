@@ -10,7 +10,8 @@ use Rattle.c_lower.specs.Lowering.{array_places, name_at}
 use Rattle.c_lower.proofs.Routines.{past_pids, past_parameters, past_arrays, past_elements, named, routine_is, ok_for, err_for}
 use Rattle.c_lower.proofs.Whole.{fixed_is}
 use Rattle.c_lower.proofs.lowering.lower.Goals as goal
-use Rattle.c_lower.proofs.lowering.lower.Goals.{then-f-ge-PIDS-via-then-f-ge-PIDS, then-f-ge-PIDS-via-else-f-ge-PIDS+then-len, then-len-2-via-then-len-2, then-len-2-via-else-len-2+then-not-has_few_elements}
+use Rattle.c_lower.proofs.lowering.lower.Goals.{then-f-ge-PIDS-via-then-f-ge-PIDS, then-f-ge-PIDS-via-else-f-ge-PIDS+then-len}
+use Rattle.c_lower.proofs.lowering.lower.Goals.{then-len-2-via-then-len-2, then-len-2-via-else-len-2+then-not-has_few_elements}
 
 pub returns-then-f-ge-PIDS-clause-too_large : goal.returns-then-f-ge-PIDS-clause-too_large
 returns-then-f-ge-PIDS-clause-too_large c =

@@ -7,7 +7,8 @@ use Rattle.c_lower.specs.Drafts.{Fixed}
 use Rattle.c_lower.specs.Settings.{fixed_of}
 use Rattle.c_lower.proofs.Routines.{numbers_are, blocks_made, past_registers, past_size, past_instrs, kept, within, is_lowered}
 use Rattle.c_lower.proofs.lowering.routine.Goals as goal
-use Rattle.c_lower.proofs.lowering.routine.Goals.{then-regs-gt-REGISTERS-via-then-regs-gt-REGISTERS, then-regs-gt-REGISTERS-via-else-regs-gt-REGISTERS+then-size-gt-SIZE}
+use Rattle.c_lower.proofs.lowering.routine.Goals.{then-regs-gt-REGISTERS-via-then-regs-gt-REGISTERS}
+use Rattle.c_lower.proofs.lowering.routine.Goals.{then-regs-gt-REGISTERS-via-else-regs-gt-REGISTERS+then-size-gt-SIZE}
 
 pub returns-then-regs-gt-REGISTERS-clause-too_large : goal.returns-then-regs-gt-REGISTERS-clause-too_large
 returns-then-regs-gt-REGISTERS-clause-too_large c =

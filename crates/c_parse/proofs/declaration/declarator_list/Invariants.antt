@@ -7,7 +7,8 @@ use Rattle.c_parse.specs.ModuleParts as parts
 use Rattle.c_parse.proofs.declaration.declarator_list.Given as goal
 
 abbrev pub invariant-row : goal.invariant-row
-invariant-row l = read_rest always always (punct p.Comma ∷ []) trees.snoc (read_lead (punct p.Comma) (parts.declarator l.fn.top)) (length l.rest) l.items l.rest ≡ parts.declarator_list l.fn.top l.fn.t
+invariant-row l = read_rest always always (punct p.Comma ∷ []) trees.snoc (read_lead (punct p.Comma) (parts.declarator l.fn.top)) (length l.rest) l.items l.rest
+    ≡ parts.declarator_list l.fn.top l.fn.t
 
 abbrev pub decreases-row : goal.decreases-row
 decreases-row l = length l.rest

@@ -42,7 +42,8 @@ abbrev pub decreases-compound : goal.decreases-compound
 decreases-compound l = l.depth * 8 + 3
 
 abbrev pub invariant-statements-row : goal.invariant-statements-row
-invariant-statements-row l = read_rest always always heads.stmt_first trees.snoc (parts.statement l.fn.top l.fn.depth) (length l.rest) l.items l.rest ≡ parts.statements l.fn.top l.fn.depth l.fn.t
+invariant-statements-row l = read_rest always always heads.stmt_first trees.snoc (parts.statement l.fn.top l.fn.depth) (length l.rest) l.items l.rest ≡
+    parts.statements l.fn.top l.fn.depth l.fn.t
 
 abbrev pub decreases-statements-row : goal.decreases-statements-row
 decreases-statements-row l = length l.rest

@@ -6,7 +6,8 @@ use Rattle.c_parse.specs.ModuleParts as parts
 use Rattle.c_parse.proofs.statement.declarations.Given as goal
 
 abbrev pub invariant-row : goal.invariant-row
-invariant-row l = read_rest always always readers.specifier_first trees.snoc (parts.declaration l.fn.top) (length l.rest) l.items l.rest ≡ parts.declarations l.fn.top l.fn.t
+invariant-row l = read_rest always always readers.specifier_first trees.snoc (parts.declaration l.fn.top) (length l.rest) l.items l.rest ≡ parts.declarations
+    l.fn.top l.fn.t
 
 abbrev pub decreases-row : goal.decreases-row
 decreases-row l = length l.rest

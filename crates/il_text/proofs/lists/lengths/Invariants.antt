@@ -7,7 +7,13 @@ use Rattle.il_text.proofs.ReadLists.{IsReadSoFar}
 use Rattle.il_text.proofs.lists.lengths.Given as goal
 
 abbrev pub invariant-loop-left : goal.invariant-loop-left
-invariant-loop-left l = record { read : IsReadSoFar decimal IsWord (words_left l.fn.words) (words_left l.left) l.lens; few : length l.lens ≤ max_arrays; total : l.elements ≡ sum l.lens; small : sum l.lens ≤ max_elements }
+invariant-loop-left l = record {
+  read : IsReadSoFar decimal IsWord (words_left l.fn.words) (words_left l.left) l.lens;
+  few : length l.lens ≤ max_arrays;
+  total :
+      l.elements ≡ sum l.lens;
+  small : sum l.lens ≤ max_elements;
+}
 
 abbrev pub decreases-loop-left : goal.decreases-loop-left
 decreases-loop-left l = length (words_left l.left)

@@ -4,4 +4,8 @@ use Rattle.il_text.proofs.mnemonic.mnemonic_named.Given as goal
 
 -- no name before the index is the word
 abbrev pub invariant-loop-mnemonic : goal.invariant-loop-mnemonic
-invariant-loop-mnemonic l = record { items : l.mnemonic-items ≡ mnemonics; none_before : mnemonic_named l.word ≡ named mnemonic_text (drop l.mnemonic-index mnemonics) l.word }
+invariant-loop-mnemonic l = record {
+  items : l.mnemonic-items ≡ mnemonics;
+  none_before : mnemonic_named l.word ≡ named mnemonic_text
+      (drop l.mnemonic-index mnemonics) l.word;
+}

@@ -12,4 +12,5 @@ all_seen (x ∷ xs) (h, hs) = (h, all_seen xs hs)
 
 pub returns : goal.returns
 returns c = λ e. all_seen c.args.summaries.now
-    (all_of_front (λ s. IsSmall (summary_of s)) c.loop-summary.summary-index c.args.summaries.now (omega (arith, c.loop-summary-test.false)) c.loop-summary.invariant)
+    (all_of_front (λ s. IsSmall (summary_of s)) c.loop-summary.summary-index c.args.summaries.now (omega (arith, c.loop-summary-test.false))
+    c.loop-summary.invariant)

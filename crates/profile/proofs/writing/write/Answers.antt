@@ -19,7 +19,8 @@ pub returns-clause-read : goal.returns-clause-read
 returns-clause-read c q r =
     let h = c.in_ok-write_names.ensures in
     let a = h.lines in
-    read_again c.names.result.now.entries a.lines a.of a.adds.are c.extend_from_slice-2.new.self.items (spelled c) a.once h.names c.args.p.now q c.names.ensures r
+    read_again c.names.result.now.entries a.lines a.of a.adds.are c.extend_from_slice-2.new.self.items (spelled c) a.once h.names c.args.p.now q c.names.ensures
+    r
 
 pub returns-clause-fits : goal.returns-clause-fits
 returns-clause-fits c n d =

@@ -7,4 +7,5 @@ pub returns-in_default-clause-none : goal.returns-in_default-clause-none
 returns-in_default-clause-none c = (refl, not_taken c.args.self.now.rest.now c.in_default.ensures.none)
 
 pub returns-clause-found : goal.returns-clause-found
-returns-clause-found c = taken c.args.self.now.rest.now _ c.in-Some.number c.in-Some.end c.in-Some.ensures.word (take_rest c.args.self.now.rest.now c.in-Some.end) c.in-Some.ensures.found
+returns-clause-found c = taken c.args.self.now.rest.now _ c.in-Some.number c.in-Some.end c.in-Some.ensures.word
+    (take_rest c.args.self.now.rest.now c.in-Some.end) c.in-Some.ensures.found

@@ -26,20 +26,24 @@ fetch_add-found-requires g c =
 pub returns-clause-pass : goal.returns-clause-pass
 returns-clause-pass g c =
     let e = c.move_in.ensures.seat in let t = c.fetch_add-found.ensures.2 c.args.t.state c.args.note (ap (λ z. z.1) e) in
-    noted_pass _ c.args.p.now _ c.args.note t.gives (t.has ∙ ap (λ z. (with_note c.args.note t.gives z.0, [])) e) (c.fetch_add-found.ensures.0 ∙ c.move_in.ensures.same.0) t.count c.requires.pass
+    noted_pass _ c.args.p.now _ c.args.note t.gives (t.has ∙ ap (λ z. (with_note c.args.note t.gives z.0, [])) e)
+    (c.fetch_add-found.ensures.0 ∙ c.move_in.ensures.same.0) t.count c.requires.pass
 
 pub returns-clause-number : goal.returns-clause-number
 returns-clause-number g c =
     let e = c.move_in.ensures.seat in let t = c.fetch_add-found.ensures.2 c.args.t.state c.args.note (ap (λ z. z.1) e) in
-    (noted_me c.args.note t.gives c.args.p.now.seat.me.0 c.fetch_add-found.new.seat.me (t.has ∙ ap (λ z. (with_note c.args.note t.gives z.0, [])) e) c.requires.pass.placed).1
+    (noted_me c.args.note t.gives c.args.p.now.seat.me.0 c.fetch_add-found.new.seat.me (t.has ∙ ap (λ z. (with_note c.args.note t.gives z.0, [])) e)
+    c.requires.pass.placed).1
 
 pub returns-clause-view : goal.returns-clause-view
 returns-clause-view g c =
     let e = c.move_in.ensures.seat in let t = c.fetch_add-found.ensures.2 c.args.t.state c.args.note (ap (λ z. z.1) e) in
-    (noted_me c.args.note t.gives c.args.p.now.seat.me.0 c.fetch_add-found.new.seat.me (t.has ∙ ap (λ z. (with_note c.args.note t.gives z.0, [])) e) c.requires.pass.placed).0
+    (noted_me c.args.note t.gives c.args.p.now.seat.me.0 c.fetch_add-found.new.seat.me (t.has ∙ ap (λ z. (with_note c.args.note t.gives z.0, [])) e)
+    c.requires.pass.placed).0
 
 pub returns-clause-counted : goal.returns-clause-counted
 returns-clause-counted g c =
     let e = c.move_in.ensures.seat in let t = c.fetch_add-found.ensures.2 c.args.t.state c.args.note (ap (λ z. z.1) e) in
-    let given = (noted_me c.args.note t.gives c.args.p.now.seat.me.0 c.fetch_add-found.new.seat.me (t.has ∙ ap (λ z. (with_note c.args.note t.gives z.0, [])) e) c.requires.pass.placed).3 in
+    let given = (noted_me c.args.note t.gives c.args.p.now.seat.me.0 c.fetch_add-found.new.seat.me (t.has ∙ ap (λ z. (with_note c.args.note t.gives z.0, [])) e)
+    c.requires.pass.placed).3 in
     let seen = ap (λ z. seen_at z.0) e in let more = t.more in omega arith

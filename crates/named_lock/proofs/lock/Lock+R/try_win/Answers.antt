@@ -6,7 +6,12 @@ use Rattle.named_lock.proofs.lock.Lock+R.try_win.Goals as goal
 
 pub compare_exchange-found-requires : goal.compare_exchange-found-requires
 compare_exchange-found-requires g c =
-    let p = c.requires.pass in (p.same, omega (arith, c.args.self.now.one), tries g.R.Rule.holds _ _ _ _ _ _ (p.slots ∙ out-idle _ c.requires.idle) p.placed (omega arith))
+    let p = c.requires.pass in (
+      p.same,
+      omega (arith, c.args.self.now.one),
+      tries g.R.Rule.holds _ _ _ _ _ _ (p.slots ∙ out-idle _ c.requires.idle) p.placed
+          (omega arith),
+    )
 
 pub returns-clause-lost : goal.returns-clause-lost
 returns-clause-lost g c = λ e. let f = c.compare_exchange-found.ensures in let me = f.2.0 (eqb-false _ _ e) in

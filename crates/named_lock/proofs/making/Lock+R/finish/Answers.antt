@@ -9,9 +9,11 @@ bring_home-requires-clause-slot g c = c.requires.pass.slots ∙ out-taken _ _ c.
 
 pub discard-requires : goal.discard-requires
 discard-requires g c =
-    let e = closed g.R.Rule.holds _ _ _ _ c.args.p.seat.me.0 c.args.t.taken.value _ _ (ap (λ z. z.0) c.bring_home.ensures.seat) c.requires.pass.placed c.requires.turn c.requires.all c.close_with-closed.ensures.values.2 in
+    let e = closed g.R.Rule.holds _ _ _ _ c.args.p.seat.me.0 c.args.t.taken.value _ _ (ap (λ z. z.0) c.bring_home.ensures.seat) c.requires.pass.placed
+    c.requires.turn c.requires.all c.close_with-closed.ensures.values.2 in
     ap (λ h. h.state) (base.some-injective _ _ (sym c.take.ensures.value ∙ e.0))
 
 pub returns-clause-rule : goal.returns-clause-rule
 returns-clause-rule g c =
-    (closed g.R.Rule.holds _ _ _ _ c.args.p.seat.me.0 c.args.t.taken.value _ _ (ap (λ z. z.0) c.bring_home.ensures.seat) c.requires.pass.placed c.requires.turn c.requires.all c.close_with-closed.ensures.values.2).1
+    (closed g.R.Rule.holds _ _ _ _ c.args.p.seat.me.0 c.args.t.taken.value _ _ (ap (λ z. z.0) c.bring_home.ensures.seat) c.requires.pass.placed c.requires.turn
+    c.requires.all c.close_with-closed.ensures.values.2).1

@@ -11,13 +11,16 @@ pub returns-clause-pass : goal.returns-clause-pass
 returns-clause-pass g c = let t = c.load.ensures.2 in seen_pass _ c.args.p.now _ t.gives t.has c.load.ensures.0 refl c.requires.pass
 
 pub returns-clause-number : goal.returns-clause-number
-returns-clause-number g c = let t = c.load.ensures.2 in (seen_me t.gives c.args.p.now.seat.me.0 c.args.p.now.seat.me.1 c.load.new.seat.me t.has c.requires.pass.placed).1
+returns-clause-number g c = let t = c.load.ensures.2 in (seen_me t.gives c.args.p.now.seat.me.0 c.args.p.now.seat.me.1 c.load.new.seat.me t.has
+    c.requires.pass.placed).1
 
 pub returns-clause-view : goal.returns-clause-view
-returns-clause-view g c = let t = c.load.ensures.2 in (seen_me t.gives c.args.p.now.seat.me.0 c.args.p.now.seat.me.1 c.load.new.seat.me t.has c.requires.pass.placed).0
+returns-clause-view g c = let t = c.load.ensures.2 in (seen_me t.gives c.args.p.now.seat.me.0 c.args.p.now.seat.me.1 c.load.new.seat.me t.has
+    c.requires.pass.placed).0
 
 pub returns-clause-given : goal.returns-clause-given
-returns-clause-given g c = let t = c.load.ensures.2 in (seen_me t.gives c.args.p.now.seat.me.0 c.args.p.now.seat.me.1 c.load.new.seat.me t.has c.requires.pass.placed).3
+returns-clause-given g c = let t = c.load.ensures.2 in (seen_me t.gives c.args.p.now.seat.me.0 c.args.p.now.seat.me.1 c.load.new.seat.me t.has
+    c.requires.pass.placed).3
 
 pub returns-clause-since : goal.returns-clause-since
 returns-clause-since g c = λ other.

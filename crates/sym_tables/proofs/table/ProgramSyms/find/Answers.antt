@@ -19,10 +19,12 @@ loop-at-preserved c =
 
 pub returns-clause-pid : goal.returns-clause-pid
 returns-clause-pid c =
-    sym (none_pid c.self.inside.symbols.entries c.args.bytes.now c.loop-at.at c.loop-at.invariant (subst (λ n. n ≤ c.loop-at.at) c.len-at-end.ensures.len c.loop-at-test.false))
+    sym (none_pid c.self.inside.symbols.entries c.args.bytes.now c.loop-at.at c.loop-at.invariant
+    (subst (λ n. n ≤ c.loop-at.at) c.len-at-end.ensures.len c.loop-at-test.false))
     ∙ ap (λ syms. pid_of syms c.args.bytes.now) c.self.view_is
 
 pub returns-clause-symbol : goal.returns-clause-symbol
 returns-clause-symbol c =
-    sym (none_symbol c.self.inside.symbols.entries c.args.bytes.now c.loop-at.at c.loop-at.invariant (subst (λ n. n ≤ c.loop-at.at) c.len-at-end.ensures.len c.loop-at-test.false))
+    sym (none_symbol c.self.inside.symbols.entries c.args.bytes.now c.loop-at.at c.loop-at.invariant
+    (subst (λ n. n ≤ c.loop-at.at) c.len-at-end.ensures.len c.loop-at-test.false))
     ∙ ap (λ syms. symbol_of syms c.args.bytes.now) c.self.view_is

@@ -13,10 +13,15 @@ pub loop-at-init : goal.loop-at-init
 loop-at-init c = c.self.invariant.least_open
 
 pub returns-then-is_open : goal.returns-then-is_open
-returns-then-is_open c = sym (first_found is_open (values_of c.self.inside.symbols.entries) c.loop-at.at c.unwrap.result.1.now c.loop-at.invariant (known_at c.self.inside.symbols.entries c.loop-at.at _ c.unwrap.result c.get_index.ensures.entry c.unwrap.ensures) (sym c.is_open.ensures ∙ c.if-is_open.true)) ∙ ap first_open c.self.view_is
+returns-then-is_open c = sym (first_found is_open (values_of c.self.inside.symbols.entries) c.loop-at.at c.unwrap.result.1.now c.loop-at.invariant
+    (known_at c.self.inside.symbols.entries c.loop-at.at _ c.unwrap.result c.get_index.ensures.entry c.unwrap.ensures)
+    (sym c.is_open.ensures ∙ c.if-is_open.true)) ∙ ap first_open c.self.view_is
 
 pub loop-at-preserved : goal.loop-at-preserved
-loop-at-preserved c = front_more IsClosed c.loop-at.at (values_of c.self.inside.symbols.entries) c.unwrap.result.1.now c.loop-at.invariant (known_at c.self.inside.symbols.entries c.loop-at.at _ c.unwrap.result c.get_index.ensures.entry c.unwrap.ensures) (sym c.is_open.ensures ∙ c.if-is_open.false)
+loop-at-preserved c = front_more IsClosed c.loop-at.at (values_of c.self.inside.symbols.entries) c.unwrap.result.1.now c.loop-at.invariant
+    (known_at c.self.inside.symbols.entries c.loop-at.at _ c.unwrap.result c.get_index.ensures.entry c.unwrap.ensures)
+    (sym c.is_open.ensures ∙ c.if-is_open.false)
 
 pub returns : goal.returns
-returns c = sym (none_found is_open (values_of c.self.inside.symbols.entries) c.loop-at.at c.loop-at.invariant (let a = length_values c.self.inside.symbols.entries in let b = c.len-at-end.ensures.len in omega arith)) ∙ ap first_open c.self.view_is
+returns c = sym (none_found is_open (values_of c.self.inside.symbols.entries) c.loop-at.at c.loop-at.invariant
+    (let a = length_values c.self.inside.symbols.entries in let b = c.len-at-end.ensures.len in omega arith)) ∙ ap first_open c.self.view_is

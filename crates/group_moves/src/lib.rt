@@ -1,0 +1,6 @@
+//! The moves of accepted groups, by caller.
+#![tactic(auto)]
+
+mod gathering;
+
+pub use gathering::caller_moves;
