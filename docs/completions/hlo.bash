@@ -11,12 +11,12 @@ _hlo() {
       [ "$before" = --turns ] && return
       case $word in -*) mapfile -t COMPREPLY < <(compgen -W "--turns" -- "$word"); return ;; esac ;;
     opt)
-      [ "$before" = --limit ] && return
+      case $before in --limit | --passes) return ;; esac
       if [ "$before" = --profile ]; then
         mapfile -t COMPREPLY < <(compgen -f -- "$word")
         return
       fi
-      case $word in -*) mapfile -t COMPREPLY < <(compgen -W "--limit --profile --stats" -- "$word"); return ;; esac ;;
+      case $word in -*) mapfile -t COMPREPLY < <(compgen -W "--limit --passes --profile --stats" -- "$word"); return ;; esac ;;
     check) ;;
     *) return ;;
   esac
