@@ -1,5 +1,5 @@
 -- What `train` came to, and what it promises.
-use Rattle.std.proofs.Common.{◌≡◌, ℕ, ◌⊎◌, false, List, [], Option, Some, None, Result, Ok, Err, nat_eq, refl, sym, ◌∙◌, ap, subst, inl, inr, length, take}
+use Rattle.std.proofs.Common.{◌≡◌, ℕ, ◌⊎◌, false, List, [], Option, Some, None, Err, nat_eq, refl, sym, ◌∙◌, ap, subst, inl, inr, length}
 use Rattle.std.specs.Io.KnownBytes.{Appends, Keeps}
 use Rattle.std.proofs.Math.Seq.{take-length}
 use Rattle.c_module.specs.Programs.{IsProgramOf}

@@ -11,7 +11,6 @@ use Rattle.profile.specs.Writing.{IsWritten}
 use Rattle.hlo_cmd.specs.declared.print.PrintFault.{PrintFault}
 use Rattle.hlo_cmd.specs.declared.print.PrintFault.TheVariants as print_fault
 use Rattle.il_core.specs.declared.instr.Block.{Block}
-use Rattle.il_core.specs.declared.program.IlProgram.{IlProgram}
 use Rattle.il_core.specs.declared.shape.ShapeRow.{ShapeRow}
 use Rattle.il_core.specs.declared.instr.Instr.{Instr}
 use Rattle.il_core.specs.declared.instr.Instr.TheVariants.{Const, Move, Conv, Bin, Get, Set, GetX, SetX, GetA, SetA, Clear, Turn, Call, GetChar, PutChar}
@@ -19,12 +18,12 @@ use Rattle.il_core.specs.Meaning.{MadeCall, sites_in, sites_of}
 use Rattle.il_core.specs.Program.{name_at}
 use Rattle.il_core.specs.Routine.{RoutineParts}
 use Rattle.il_core.specs.Size.{block_size, blocks_size}
-use Rattle.il_run.specs.Counts.{counts_of, entry_count, site_count, sites_of_blocks}
+use Rattle.il_run.specs.Counts.{entry_count, site_count, sites_of_blocks}
 use Rattle.profile.specs.Counts.{Profiled}
 use Rattle.profile.specs.Names.{Names}
 use Rattle.profile.specs.Texts.{Line, Entry, Site, set_by, set_by_all}
 use Rattle.list_laws.proofs.Elements.{drop_read}
-use Rattle.hlo_cmd.specs.Training.{AreCountsOf, counted_lines, PutsProfile, entered, routine_lines, site_lines_from, trained_lines}
+use Rattle.hlo_cmd.specs.Training.{counted_lines, PutsProfile, entered, routine_lines, site_lines_from, trained_lines}
 
 pub set_all_append : (ls ms : List Line) (ns : Names) → set_by_all (ls ++ ms) ns ≡ set_by_all ms (set_by_all ls ns)
 set_all_append [] ms ns = refl

@@ -38,7 +38,8 @@ fit_there : (ls : List Line) (l : Line) (ms : List Line) → AreFit (ls ++ l ∷
 fit_there [] l ms h = h.0
 fit_there (m ∷ ls) l ms h = fit_there ls l ms h.1
 
-follows_at : (f partial : Partial) (ls : List Line) (rest bytes behind : List ℕ) → IsFitPartial f → partial_lines f ≡ partial_lines partial ++ ls → rest ≡ lines_text ls
+follows_at : (f partial : Partial) (ls : List Line) (rest bytes behind : List ℕ) → IsFitPartial f → partial_lines f ≡ partial_lines partial ++ ls
+    → rest ≡ lines_text ls
     → rest ≡ bytes ++ 10 ∷ behind → HasNoFeed bytes → Follows f partial bytes behind
 follows_at f partial [] rest bytes behind h e is split plain = absurd (no_line_in bytes behind (sym split ∙ is))
 follows_at f partial (l ∷ ls) rest bytes behind h e is split plain =
@@ -76,7 +77,8 @@ run_none : (ls : List Line) (f : Partial) → run None ls ≡ Some f → ⊥
 run_none [] f e = absurd cc
 run_none (l ∷ ls) f e = run_none ls f e
 
-goes_on : (partial f : Partial) (l : Line) (ls : List Line) (o : Option Partial) → next partial l ≡ o → run o ls ≡ Some f → (g : Partial) × (next partial l ≡ Some g)
+goes_on : (partial f : Partial) (l : Line) (ls : List Line) (o : Option Partial) → next partial l ≡ o → run o ls ≡ Some f
+    → (g : Partial) × (next partial l ≡ Some g)
 goes_on partial f l ls None e h = absurd (run_none ls f h)
 goes_on partial f l ls (Some g) e h = (g, e)
 
@@ -99,7 +101,8 @@ only_memory f partial rest bytes behind n (At m (kind.Invalid flaw)) h k a split
 only_memory f partial rest bytes behind n (At m kind.NoMain) h k a split plain e = absurd e
 only_memory f partial rest bytes behind n Memory h k a split plain e = refl
 
-ends_at : (f partial : Partial) (ls : List Line) (rest : List ℕ) → IsFitPartial f → IsFitPartial partial → partial_lines f ≡ partial_lines partial ++ ls → rest ≡ lines_text ls
+ends_at : (f partial : Partial) (ls : List Line) (rest : List ℕ) → IsFitPartial f → IsFitPartial partial → partial_lines f ≡ partial_lines partial ++ ls
+    → rest ≡ lines_text ls
     → HasNoFeed rest → (rest ≡ []) × (partial ≡ f)
 ends_at f partial [] rest h k e is plain = (is, same_partial partial f k h (sym (e ∙ append-nil (partial_lines partial))))
 ends_at f partial (l ∷ ls) rest h k e is plain = absurd (no_line (line_bytes l) rest (lines_text ls) plain

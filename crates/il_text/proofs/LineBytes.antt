@@ -1,17 +1,13 @@
 -- Lines as words and as bytes.
-use Rattle.std.proofs.Common.{◌≡◌, ℕ, true, false, List, [], ◌∷◌, ◌++◌, refl, sym, ◌∙◌, ap, subst, append-nil, arith, inl, inr}
-use Rattle.std.specs.Prelude.{nat_lt, ◌==◌}
-use Rattle.std.specs.List.{list_all, join_with_byte}
-use Rattle.std.proofs.lemmas.Bool.{cases_Bool, ne_eqb, eqb-true, ltb-true, and_parts}
+use Rattle.std.proofs.Common.{◌≡◌, []}
 use Rattle.il_text.specs.declared.line.Line.{Line}
 use Rattle.il_text.specs.declared.line.Line.TheVariants.{First, Object, Routine, Label, Inside, Close, Done}
 use Rattle.il_text.specs.Lines.{IsFitLine, line_words}
 use Rattle.text_lines.specs.Lines.{HasNoFeed}
 use Rattle.il_text.specs.Texts.{line_bytes}
-use Rattle.text_lines.specs.Words.{onto_first, words_of}
+use Rattle.text_lines.specs.Words.{words_of}
 use Rattle.il_text.proofs.PlainWords.{line_plain}
 use Rattle.text_lines.proofs.Spaceless.{words_joined, join_no_feed}
-use Rattle.text_lines.proofs.WordSplits.{some_word}
 
 some_words : (l : Line) → line_words l ≡ [] → ⊥
 some_words First e = absurd cc

@@ -50,14 +50,16 @@ more_text : (ls : List Line) (l : Line) → lines_text (ls ++ l ∷ []) ≡ line
 more_text ls l = flat_map-append (λ m. line_bytes m ++ 10 ∷ []) ls (l ∷ []) ∙ ap (λ bs. lines_text ls ++ bs) (append-nil (line_bytes l ++ 10 ∷ []))
 
 -- the text goes over to the next partial program
-pub text_goes_on : (f g : Partial) (b rest bytes behind : List ℕ) → IsNextLine f bytes g → b ≡ lines_text (partial_lines f) ++ rest → rest ≡ bytes ++ 10 ∷ behind
+pub text_goes_on : (f g : Partial) (b rest bytes behind : List ℕ) → IsNextLine f bytes g → b ≡ lines_text (partial_lines f) ++ rest
+    → rest ≡ bytes ++ 10 ∷ behind
     → b ≡ lines_text (partial_lines g) ++ behind
 text_goes_on f g b rest bytes behind n e split =
     e ∙ ap (λ l. lines_text (partial_lines f) ++ l) (split ∙ ap (λ l. l ++ 10 ∷ behind) n.spelled ∙ sym (append_assoc (line_bytes n.line) (10 ∷ []) behind))
     ∙ sym (append_assoc (lines_text (partial_lines f)) (line_bytes n.line ++ 10 ∷ []) behind)
     ∙ ap (λ l. l ++ behind) (sym (more_text (partial_lines f) n.line) ∙ ap lines_text (sym n.lines))
 
-pub number_goes_on : (f g : Partial) (bytes : List ℕ) (n m : ℕ) → IsNextLine f bytes g → n ≡ line_number (length (partial_lines f)) → m ≡ min (n + 1) (2 ^ 32 - 1)
+pub number_goes_on : (f g : Partial) (bytes : List ℕ) (n m : ℕ) → IsNextLine f bytes g → n ≡ line_number (length (partial_lines f))
+    → m ≡ min (n + 1) (2 ^ 32 - 1)
     → m ≡ line_number (length (partial_lines g))
 number_goes_on f g bytes n m h e is = let len : length (partial_lines g) ≡ length (partial_lines f) + 1 = ap length h.lines ∙ length-append (partial_lines f)
     (h.line ∷ []) in omega (arith, len, e, is)
@@ -82,7 +84,8 @@ bad_line f b rest bytes behind n h e number split plain none = record {
 }
 
 -- the first bad line, where no line follows
-pub no_more_lines : (f : Partial) (b rest : List ℕ) (n : ℕ) → IsFitPartial f → b ≡ lines_text (partial_lines f) ++ rest → n ≡ line_number (length (partial_lines f))
+pub no_more_lines : (f : Partial) (b rest : List ℕ) (n : ℕ) → IsFitPartial f → b ≡ lines_text (partial_lines f) ++ rest
+    → n ≡ line_number (length (partial_lines f))
     → HasNoFeed rest → (rest ≡ [] → f.place ≡ place.Done → ⊥) → IsFirstBadLine b n
 no_more_lines f b rest n h e number plain end = record {
   partial = f;

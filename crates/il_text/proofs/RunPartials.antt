@@ -50,7 +50,8 @@ next_instr : (os : List NamedObject) (rs : List NamedRoutine) (r : NamedRoutine)
 next_instr os rs r n is i lt = rw (lt-ltb (n + length is) max_size (omega arith)) refl
 
 next_end : (os : List NamedObject) (rs : List NamedRoutine) (r : NamedRoutine) (n : ℕ) (x : Block) → n + length x.instrs < max_size
-    → next (partial os rs (InBlock r n x.instrs)) (line.Inside (statement.End x.end)) ≡ Some (partial os rs (InRoutine (with_block r x) (n + length x.instrs + 1)))
+    → next (partial os rs (InBlock r n x.instrs)) (line.Inside (statement.End x.end)) ≡ Some
+    (partial os rs (InRoutine (with_block r x) (n + length x.instrs + 1)))
 next_end os rs r n x lt = rw (lt-ltb (n + length x.instrs) max_size (omega arith)) refl
 
 next_label : (os : List NamedObject) (rs : List NamedRoutine) (r : NamedRoutine) (n : ℕ)
@@ -75,7 +76,8 @@ run_instrs os rs r n is (j ∷ js) h =
     (run_instrs os rs r n (is ++ j ∷ []) js (omega (arith, len)) ∙ ap (λ l. Some (partial os rs (InBlock r n l))) (append_assoc is (j ∷ []) js))
 
 run_block : (os : List NamedObject) (rs : List NamedRoutine) (r : NamedRoutine) (n : ℕ) (x : Block) → n + block_size x ≤ max_size
-    → run (Some (partial os rs (InRoutine r n))) (block_lines (length r.routine.blocks) x) ≡ Some (partial os rs (InRoutine (with_block r x) (n + block_size x)))
+    → run (Some (partial os rs (InRoutine r n))) (block_lines (length r.routine.blocks) x) ≡ Some
+    (partial os rs (InRoutine (with_block r x) (n + block_size x)))
 run_block os rs r n x h =
     then_next (partial os rs (InRoutine r n)) (partial os rs (InBlock r n [])) (line.Label (length r.routine.blocks))
     (instr_lines x.instrs ++ line.Inside (statement.End x.end) ∷ []) _ (next_label os rs r n)
@@ -96,12 +98,14 @@ no_blocks r = ap (λ bs. let q : NamedRoutine = record r { routine = record r.ro
 run_blocks : (os : List NamedObject) (rs : List NamedRoutine) (r : NamedRoutine) (n b : ℕ) (xs : List Block) → b ≡ length r.routine.blocks
     → n + blocks_size xs ≤ max_size
     → run (Some (partial os rs (InRoutine r n))) (blocks_lines b xs) ≡ Some (partial os rs (InRoutine (with_blocks r xs) (n + blocks_size xs)))
-run_blocks os rs r n b [] e h = ap (λ q. Some (partial os rs (InRoutine q n))) (sym (no_blocks r)) ∙ ap (λ m. Some (partial os rs (InRoutine (with_blocks r []) m)))
+run_blocks os rs r n b [] e h = ap (λ q. Some (partial os rs (InRoutine q n))) (sym (no_blocks r)) ∙ ap
+    (λ m. Some (partial os rs (InRoutine (with_blocks r []) m)))
     (omega arith)
 run_blocks os rs r n b (x ∷ xs) e h =
     let total : blocks_size (x ∷ xs) ≡ block_size x + blocks_size xs = sum_by-cons block_size x xs in
     let len = length-append r.routine.blocks (x ∷ []) in
-    then_run (Some (partial os rs (InRoutine r n))) (block_lines b x) (blocks_lines (b + 1) xs) (partial os rs (InRoutine (with_block r x) (n + block_size x))) _
+    then_run (Some (partial os rs (InRoutine r n))) (block_lines b x) (blocks_lines (b + 1) xs)
+    (partial os rs (InRoutine (with_block r x) (n + block_size x))) _
     (subst (λ k. run (Some (partial os rs (InRoutine r n))) (block_lines k x) ≡ Some (partial os rs (InRoutine (with_block r x) (n + block_size x)))) (sym e)
     (run_block os rs r n x (omega (arith, total))))
     (run_blocks os rs (with_block r x) (n + block_size x) (b + 1) xs (omega (arith, len)) (omega (arith, total))
@@ -170,7 +174,8 @@ run_partial f h = run_at f.place f.objects f.routines h.routines h.place h.room
 
 -- what follows a partial program is told by its lines and the next one
 pub next_told : (f g : Partial) (l : Line) → IsFitPartial f → IsFitPartial g → partial_lines g ≡ partial_lines f ++ l ∷ [] → next f l ≡ Some g
-next_told f g l h k e = sym (run_append (Some at_start) (partial_lines f) (l ∷ []) ∙ ap (λ o. run o (l ∷ [])) (run_partial f h)) ∙ ap (λ ls. run (Some at_start) ls)
+next_told f g l h k e = sym (run_append (Some at_start) (partial_lines f) (l ∷ []) ∙ ap (λ o. run o (l ∷ [])) (run_partial f h)) ∙ ap
+    (λ ls. run (Some at_start) ls)
     (sym e) ∙ run_partial g k
 
 -- two partial programs with the same lines are one

@@ -1,14 +1,12 @@
 -- The sums stay small.
-use Rattle.std.proofs.Common.{◌≡◌, ℕ, ◌+◌, ◌*◌, ◌<◌, ◌≤◌, ◌^◌, nat_eq, List, [], ◌∷◌, length, Option, Some, None, IsSome, refl, sym, ap, arith, ◌∙◌}
-use Rattle.std.proofs.Common.{sum_by, cond, true, false}
-use Rattle.std.specs.Prelude.{count_by}
-use Rattle.std.specs.List.{IsDistinct, slice_get}
+use Rattle.std.proofs.Common.{◌≡◌, ℕ, ◌+◌, ◌*◌, ◌<◌, ◌≤◌, ◌^◌, nat_eq, List, [], ◌∷◌, length, Some, None, refl, sym, ap, arith, ◌∙◌}
+use Rattle.std.proofs.Common.{sum_by, false}
+use Rattle.std.specs.List.{IsDistinct}
 use Rattle.std.specs.Map.{keys_of, values_of, lookup}
 use Rattle.std.proofs.lemmas.List.Sums.{sum_by-cons, count_by-le-length}
 use Rattle.std.proofs.lemmas.Map.Keys.{IsDistinct-tail}
-use Rattle.std.proofs.lemmas.Option.{same_Some}
-use Rattle.naim_core.specs.Charges.{under_part, held_part, under_sum, held_sum, room_of}
-use Rattle.naim_core.specs.Sound.{IsFitStage, IsFitPool, IsSound, read_pins, hands_with}
+use Rattle.naim_core.specs.Charges.{under_part, held_part, under_sum, held_sum}
+use Rattle.naim_core.specs.Sound.{IsFitPool, IsSound, read_pins}
 use Rattle.naim_core.specs.State.{Core, pool_at, readers_at, holds}
 use Rattle.naim_core.specs.declared.event.Mode.TheVariants as mode
 use Rattle.naim_core.specs.declared.pool.Pool.{Pool}

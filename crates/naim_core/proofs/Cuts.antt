@@ -1,29 +1,24 @@
 -- How the tasks are cut, through a claim and through a wave.
-use Rattle.std.proofs.Common.{◌≡◌, ◌≢◌, ℕ, zero, suc, ◌+◌, ◌-◌, ◌<◌, ◌≤◌, ◌^◌, Bool, true, false, not, cond, nat_eq, List, [], ◌∷◌, drop, length}
-use Rattle.std.proofs.Common.{length-drop, get_or, replicate, Option, Some, None, IsSome, Ok, Err, refl, sym, ap, subst, arith, ◌∙◌, drop-cons, add-one}
+use Rattle.std.proofs.Common.{◌≡◌, ℕ, ◌+◌, ◌<◌, ◌≤◌, Bool, true, false, not, nat_eq, List, [], ◌∷◌, drop, length}
+use Rattle.std.proofs.Common.{length-drop, get_or, Option, Some, None, Ok, Err, refl, sym, ap, subst, arith, ◌∙◌, drop-cons, add-one}
 use Rattle.std.proofs.Common.{true≢false}
 use Rattle.std.specs.Prelude.{count_by, is_some, is_none, ◌&&◌, ◌||◌, if◌then◌else◌}
 use Rattle.std.specs.Cmp.{nat_eq_equiv}
-use Rattle.std.specs.List.{IsDistinct, slice_get, slice_set, list_any, list_all}
-use Rattle.std.specs.Map.{lookup}
+use Rattle.std.specs.List.{slice_get, slice_set, list_any, list_all}
 use Rattle.std.proofs.lemmas.List.{length-set}
 use Rattle.std.proofs.lemmas.List.Sums.{sum_by-cons}
 use Rattle.std.proofs.lemmas.Map.Made.{length-le_from_is_member}
 use Rattle.std.proofs.lemmas.Map.Steps.{length-le_from_keys}
-use Rattle.std.proofs.lemmas.Option.{same_Some}
-use Rattle.naim_core.specs.Charges.{under_sum}
 use Rattle.naim_core.specs.Rows
 use Rattle.naim_core.specs.Sound.{hands_with, IsSound}
-use Rattle.naim_core.specs.State.{Core, IsKept, pool_at, hand_at, holds, is_in, is_empty_hand, has_repeat, empty_hand, start}
-use Rattle.naim_core.specs.Steps.{Follows, claim_step, begin_wave_step, end_wave_step}
+use Rattle.naim_core.specs.State.{Core, IsKept, pool_at, hand_at, holds, is_in, is_empty_hand, has_repeat}
+use Rattle.naim_core.specs.Steps.{Follows, claim_step, end_wave_step}
 use Rattle.naim_core.specs.declared.event.Refusal.TheVariants.{InUse}
 use Rattle.naim_core.specs.declared.pool.Pool.{Pool}
 use Rattle.naim_core.specs.declared.state.Hand.{Hand}
 use Rattle.naim_core.proofs.Keeps.{one, count_set}
-use Rattle.naim_core.proofs.Kept.{hand_at_there}
 use Rattle.list_laws.proofs.Entries.{other_number, same_number}
-use Rattle.naim_core.proofs.Repeat.{no_repeat}
-use Rattle.naim_core.proofs.Waves.{claim_sound, begin_wave_sound, end_wave_sound, no_task_held, distinct_of, all_present, empty_parts}
+use Rattle.naim_core.proofs.Waves.{distinct_of, all_present, empty_parts}
 
 pub kept_pools : (s : Core) (next room : ℕ) (pools : List (ℕ × Pool)) → IsKept s next room → IsKept (record s { pools = pools }) next room
 kept_pools s next room pools k = record {

@@ -1,29 +1,26 @@
 -- What an accepted event of one pool leaves, for crates that keep more of each pool.
-use Rattle.std.proofs.Common.{◌≡◌, ◌≢◌, ℕ, ◌+◌, ◌<◌, ◌≤◌, ◌^◌, Bool, true, false, true≢false, cond, not, nat_eq, List, [], ◌∷◌, ◌++◌, length, Option}
+use Rattle.std.proofs.Common.{◌≡◌, ℕ, Bool, true, false, cond, not, nat_eq, [], ◌∷◌, ◌++◌, length, Option}
 use Rattle.std.proofs.Common.{Some, None, Result, Ok, Err, refl, sym, ap, subst, ◌∙◌}
-use Rattle.std.specs.Prelude.{is_some, is_none, slice_get, slice_set, drop, ◌==◌, ◌&&◌, ◌||◌, nat_lt, nat_le, if◌then◌else◌}
+use Rattle.std.specs.Prelude.{is_some, slice_set, ◌&&◌, ◌||◌, if◌then◌else◌}
 use Rattle.std.specs.Cmp.{nat_eq_equiv}
 use Rattle.std.specs.Option.{option_map_or}
 use Rattle.std.specs.Map.{remove_entry}
-use Rattle.std.proofs.lemmas.Option.{same_Some}
-use Rattle.naim_core.specs.Charges.{under_sum, room_of}
+use Rattle.naim_core.specs.Charges.{under_sum}
 use Rattle.naim_core.specs.Rows
 use Rattle.naim_core.specs.Sound.{IsSound}
-use Rattle.naim_core.specs.State.{Core, pool_at, hand_at, holds, victim, is_free, is_expanded, is_read, is_written, is_pinned, is_compacted}
+use Rattle.naim_core.specs.State.{Core, pool_at, hand_at, holds, victim, is_expanded, is_read, is_written, is_pinned}
 use Rattle.naim_core.specs.State.{is_offloaded, is_away, is_compacting, is_offloading, is_reloading, is_moving, moves_by_disk}
-use Rattle.naim_core.specs.Steps.{permit, then_state, on_pool, front, in_place, take_pin, Follows, step_of, step_running, is_fail, failed}
+use Rattle.naim_core.specs.Steps.{permit, then_state, on_pool, front, in_place, take_pin, Follows, step_of, step_running, is_fail}
 use Rattle.naim_core.specs.declared.event.Event.{Event}
 use Rattle.naim_core.specs.declared.event.Event.TheVariants as event
 use Rattle.naim_core.specs.declared.event.Failure.{Failure}
 use Rattle.naim_core.specs.declared.event.Form.{Form}
 use Rattle.naim_core.specs.declared.event.Mode.{Mode}
 use Rattle.naim_core.specs.declared.event.Refusal.{Refusal}
-use Rattle.naim_core.specs.declared.event.Refusal.TheVariants.{Stopped, Absent, Present, NotHeld, HandFull, NoTask, Moving, WrongForm, InUse, DiskOut}
-use Rattle.naim_core.specs.declared.event.Refusal.TheVariants.{Fits, NotVictim, Full, BadSize}
+use Rattle.naim_core.specs.declared.event.Refusal.TheVariants.{Stopped, Absent, NotHeld, HandFull, NoTask, Moving, WrongForm, InUse, DiskOut}
 use Rattle.naim_core.specs.declared.pool.Pool.{Pool}
 use Rattle.naim_core.specs.declared.pool.Stage.{Stage}
 use Rattle.naim_core.specs.declared.pool.Stage.TheVariants as stage
-use Rattle.naim_core.specs.declared.state.Hand.{Hand}
 use Rattle.naim_core.proofs.Keeps.{Swapped, swapped_front, swapped_in_place}
 use Rattle.list_laws.proofs.Entries.{lookup_removed}
 

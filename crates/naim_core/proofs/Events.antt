@@ -1,6 +1,6 @@
 -- Each event on a pool keeps the state sound.
-use Rattle.std.proofs.Common.{◌≡◌, ◌≢◌, ℕ, zero, suc, ◌+◌, ◌-◌, ◌*◌, ◌<◌, ◌≤◌, ◌^◌, Bool, true, false, not, cond, ◌==◌, nat_eq, nat_lt, nat_le, List}
-use Rattle.std.proofs.Common.{[], ◌∷◌, ◌++◌, length, get_or, reverse, find, Option, Some, None, IsSome, Ok, Err, Result, is_ok, refl, sym, ap, subst}
+use Rattle.std.proofs.Common.{◌≡◌, ◌≢◌, ℕ, ◌+◌, ◌-◌, ◌<◌, ◌≤◌, ◌^◌, Bool, true, false, not, cond, ◌==◌, nat_eq, nat_lt, nat_le, List}
+use Rattle.std.proofs.Common.{[], ◌∷◌, length, reverse, find, Option, Some, None, IsSome, Ok, Err, Result, is_ok, refl, sym, ap, subst}
 use Rattle.std.proofs.Common.{arith, ◌∙◌, sum_by, ◌⊎◌, inl, inr, option_map, zero-add, true≢false}
 use Rattle.std.specs.Prelude.{count_by, is_some, ◌&&◌, ◌||◌, if◌then◌else◌}
 use Rattle.std.specs.Cmp.{nat_eq_equiv}
@@ -10,27 +10,27 @@ use Rattle.std.specs.Option.{option_or, option_map_or}
 use Rattle.std.proofs.lemmas.List.{reverse-append}
 use Rattle.std.proofs.lemmas.List.Folds.{find-append}
 use Rattle.std.proofs.lemmas.Map.Keys.{IsDistinct-tail, IsDistinct-cons}
-use Rattle.std.specs.Map.{keys_of, values_of, lookup, remove_entry, set_value}
+use Rattle.std.specs.Map.{keys_of, values_of, lookup}
 use Rattle.std.proofs.lemmas.Bool.Decides.{nat_tests}
 use Rattle.std.proofs.lemmas.Option.{same_Some, cond_some}
-use Rattle.naim_core.specs.Charges.{under_part, under_sum, room_of}
+use Rattle.naim_core.specs.Charges.{under_part, under_sum}
 use Rattle.naim_core.specs.Rows
-use Rattle.naim_core.specs.Sound.{hands_with, wanted_by, read_pins, write_pins, movers, IsFitStage, IsFitPool, KeepsPin, IsSound}
-use Rattle.naim_core.specs.State.{Core, pool_at, hand_at, holds, moves_by_disk, is_offloaded, victim, is_free, is_compacted, is_moving, is_away, is_pinned}
+use Rattle.naim_core.specs.Sound.{wanted_by, read_pins, write_pins, movers, IsFitStage, IsFitPool, KeepsPin, IsSound}
+use Rattle.naim_core.specs.State.{Core, pool_at, holds, moves_by_disk, is_offloaded, victim, is_free, is_compacted}
 use Rattle.naim_core.specs.Steps.{permit, front, in_place, take_pin}
 use Rattle.naim_core.specs.declared.event.Form.{Form}
 use Rattle.naim_core.specs.declared.event.Form.TheVariants as form
 use Rattle.naim_core.specs.declared.event.Mode.{Mode}
 use Rattle.naim_core.specs.declared.event.Mode.TheVariants as mode
 use Rattle.naim_core.specs.declared.event.Refusal.{Refusal}
-use Rattle.naim_core.specs.declared.event.Refusal.TheVariants.{NotHeld, HandFull, NoTask, Moving, WrongForm, InUse, DiskOut, Fits as Fits_refusal}
+use Rattle.naim_core.specs.declared.event.Refusal.TheVariants.{NotHeld, NoTask, DiskOut, Fits as Fits_refusal}
 use Rattle.naim_core.specs.declared.event.Refusal.TheVariants.{NotVictim, Present, Full, BadSize, TooSmall, NeedsRoom}
 use Rattle.naim_core.specs.declared.pool.Pool.{Pool}
 use Rattle.naim_core.specs.declared.pool.Stage.{Stage}
 use Rattle.naim_core.specs.declared.pool.Stage.TheVariants as stage
 use Rattle.naim_core.specs.declared.state.Hand.{Hand}
 use Rattle.list_laws.proofs.Entries.{same_number, number_itself, other_number, sum_removed, apart_number, head_absent, apart_from_none}
-use Rattle.naim_core.proofs.Keeps.{one, Swapped, swapped_front, swapped_in_place, Fits, Change, holds_is, change_sound}
+use Rattle.naim_core.proofs.Keeps.{one, Swapped, swapped_front, swapped_in_place, Fits, holds_is, change_sound}
 
 -- a place that keeps what it holds, takes p, or lets p go
 fits_same : (number : Stage → ℕ) (p : ℕ) (x y : Pool) (a : Option ℕ) → number y.stage ≡ number x.stage → Fits number p x y a a

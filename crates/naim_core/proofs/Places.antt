@@ -1,15 +1,14 @@
 -- The pools that lie in the slots, after a slot's content has changed.
-use Rattle.std.proofs.Common.{◌≡◌, ◌≢◌, ℕ, ◌+◌, Bool, true, false, cond, nat_eq, List, [], ◌∷◌, length, filter_map, Option, Some, None, IsSome, refl}
-use Rattle.std.proofs.Common.{sym, ap, subst, arith, ◌∙◌}
-use Rattle.std.specs.Cmp.{nat_eq_equiv}
+use Rattle.std.proofs.Common.{◌≡◌, ℕ, true, false, cond, nat_eq, [], ◌∷◌, Some, None, refl}
+use Rattle.std.proofs.Common.{sym, ap, ◌∙◌}
 use Rattle.std.specs.List.{IsDistinct}
-use Rattle.std.specs.Map.{keys_of, lookup, lookup_entry, remove_entry, set_value}
+use Rattle.std.specs.Map.{keys_of, lookup, remove_entry, set_value}
 use Rattle.std.proofs.lemmas.Map.Keys.{IsDistinct-tail}
 use Rattle.std.proofs.lemmas.Option.{same_Some, some_pair_parts}
-use Rattle.lru.specs.LruCache.{LruCache, put_entries}
-use Rattle.naim_core.specs.Table.{Place, Order, pools_in, pid_at}
+use Rattle.lru.specs.LruCache.{put_entries}
+use Rattle.naim_core.specs.Table.{Place, Order, pools_in}
 use Rattle.naim_core.specs.declared.pool.Pool.{Pool}
-use Rattle.list_laws.proofs.Entries.{head_absent, same_number, other_number, number_itself, entry_found}
+use Rattle.list_laws.proofs.Entries.{head_absent, same_number, number_itself, entry_found}
 
 -- two pools of a table have different PIDs
 apart : (p q : ℕ) (x y : Pool) (es : Order) → IsDistinct nat_eq (keys_of ((q, y) ∷ pools_in es)) → lookup (nat_eq p) (pools_in es) ≡ Some x → nat_eq p q ≡ false

@@ -1,8 +1,8 @@
 -- One more event of a list.
-use Rattle.std.proofs.Common.{◌≡◌, ℕ, List, [], ◌∷◌, ◌++◌, Ok, Err, Result, refl, sym, ap, subst, append_assoc, ◌∙◌}
+use Rattle.std.proofs.Common.{◌≡◌, ℕ, List, [], ◌∷◌, ◌++◌, Ok, Err, Result, sym, ap, subst, append_assoc, ◌∙◌}
 use Rattle.naim_core.specs.Runs.{state_of, reply_of, state_after, replies_to, EachNames}
 use Rattle.naim_core.specs.State.{Core}
-use Rattle.naim_core.specs.Steps.{Follows, NamesWorker, step_of}
+use Rattle.naim_core.specs.Steps.{Follows, step_of}
 use Rattle.naim_core.specs.declared.event.Event.{Event}
 use Rattle.naim_core.specs.declared.event.Refusal.{Refusal}
 

@@ -1,6 +1,6 @@
 -- No event changes the limit or the number of workers; records lie apart.
-use Rattle.std.proofs.Common.{◌≡◌, ◌≢◌, ℕ, ◌+◌, ◌*◌, ◌<◌, ◌≤◌, Bool, true, false, nat_eq, List, [], ◌∷◌, ◌++◌, drop, length, Option, Some, None, Ok}
-use Rattle.std.proofs.Common.{Err, Result, refl, sym, ap, subst, arith, ◌∙◌, ◌⊎◌, inl, inr}
+use Rattle.std.proofs.Common.{◌≡◌, ℕ, ◌+◌, ◌*◌, ◌<◌, ◌≤◌, Bool, true, false, nat_eq, [], ◌∷◌, ◌++◌, drop, length, Some, None, Ok}
+use Rattle.std.proofs.Common.{Err, Result, refl, sym, subst, arith, inl, inr}
 use Rattle.std.specs.Prelude.{slice_get, slice_set, MatchResult, is_some, ◌&&◌, not, if◌then◌else◌}
 use Rattle.std.specs.Map.{remove_entry}
 use Rattle.std.specs.Option.{option_map_or}
@@ -10,7 +10,7 @@ use Rattle.std.proofs.lemmas.List.{length-set}
 use Rattle.naim_core.specs.Charges.{under_sum}
 use Rattle.naim_core.specs.Rows
 use Rattle.naim_core.specs.Sound.{IsSound, RecordsApart}
-use Rattle.naim_core.specs.State.{Core, pool_at, hand_at, holds, victim, is_offloaded, moves_by_disk, has_record}
+use Rattle.naim_core.specs.State.{Core, pool_at, hand_at, holds, victim, is_offloaded, moves_by_disk}
 use Rattle.naim_core.specs.Steps.{permit, front, in_place, take_pin, then_state, on_pool, Follows, step_of, step_running, is_fail}
 use Rattle.naim_core.specs.declared.event.Event.{Event}
 use Rattle.naim_core.specs.declared.event.Event.TheVariants as event

@@ -1,21 +1,21 @@
 -- A table stays one, after a slot's content has changed.
-use Rattle.std.proofs.Common.{◌≡◌, ◌≢◌, ℕ, zero, suc, ◌+◌, ◌<◌, ◌≤◌, ◌^◌, Bool, true, false, cond, nat_eq, List, [], ◌∷◌, ◌++◌, length, length-append}
+use Rattle.std.proofs.Common.{◌≡◌, ℕ, zero, suc, ◌+◌, ◌<◌, ◌≤◌, ◌^◌, true, false, cond, nat_eq, List, [], ◌∷◌, ◌++◌, length}
 use Rattle.std.proofs.Common.{Option, Some, None, IsSome, refl, sym, ap, subst, arith, ◌∙◌, sum_by, ◌⊎◌, inl, inr, reverse}
 use Rattle.std.specs.Cmp.{nat_eq_equiv}
 use Rattle.std.specs.List.{IsDistinct, AllByRecursion, slice_get, slice_set}
-use Rattle.std.specs.Option.{option_and_then, option_map}
+use Rattle.std.specs.Option.{option_map}
 use Rattle.std.specs.Map.{keys_of, values_of, lookup, remove_entry, set_value}
-use Rattle.std.proofs.lemmas.Map.{keys-set_value, length-set_value}
+use Rattle.std.proofs.lemmas.Map.{length-set_value}
 use Rattle.std.proofs.lemmas.List.{reverse-append}
 use Rattle.std.proofs.lemmas.List.Sums.{sum_by-cons}
 use Rattle.std.proofs.lemmas.Map.Entries.{sum_by-set_value}
 use Rattle.std.proofs.lemmas.Map.Keys.{IsDistinct-cons, IsDistinct-head, IsDistinct-tail}
 use Rattle.std.proofs.lemmas.Option.{same_Some}
 use Rattle.naim_core.specs.Charges.{under_part, held_part, under_sum, held_sum}
-use Rattle.naim_core.specs.Table.{Place, Order, pools_in, pid_at, IsFound, IsOrder, IsIndexed, IsSpare, IsTable}
+use Rattle.naim_core.specs.Table.{Order, pools_in, pid_at, IsFound, IsOrder, IsIndexed, IsSpare, IsTable}
 use Rattle.naim_core.specs.declared.pool.Pool.{Pool}
 use Rattle.list_laws.proofs.Entries.{same_number, other_number, number_itself, lookup_front, lookup_set, lookup_removed, distinct_front, distinct_set}
-use Rattle.list_laws.proofs.Entries.{distinct_removed, sum_removed, length_removed, apart_from_none, none_left}
+use Rattle.list_laws.proofs.Entries.{distinct_removed, sum_removed, length_removed, apart_from_none}
 use Rattle.naim_core.proofs.Places.{slot_found, removed_pool, set_pool, removed_empty}
 
 -- what a look-up finds after the content at i has become v

@@ -1,6 +1,6 @@
 -- Each event on a pool, told of the state that contracts see.
-use Rattle.std.proofs.Common.{◌≡◌, ℕ, ◌+◌, ◌*◌, ◌<◌, ◌≤◌, ◌^◌, Bool, true, false, nat_eq, List, [], ◌∷◌, ◌++◌, sum_by, length, get_or, Option, Some}
-use Rattle.std.proofs.Common.{None, IsSome, Ok, Err, Result, refl, sym, ap, subst, arith, ◌∙◌}
+use Rattle.std.proofs.Common.{◌≡◌, ℕ, ◌+◌, ◌<◌, true, false, nat_eq, List, [], ◌∷◌, ◌++◌, sum_by, length, get_or, Option, Some}
+use Rattle.std.proofs.Common.{None, Ok, Err, Result, refl, sym, ap, subst, arith, ◌∙◌}
 use Rattle.std.specs.Option.{option_eq}
 use Rattle.std.specs.Cmp.{nat_eq_equiv}
 use Rattle.std.proofs.lemmas.List.Sums.{sum_by-append, sum_by-cons}

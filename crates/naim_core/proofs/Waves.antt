@@ -1,16 +1,16 @@
 -- A removal, a claim, and the begin and the end of a wave keep the state sound.
-use Rattle.std.proofs.Common.{◌≡◌, ◌≢◌, ℕ, zero, suc, ◌+◌, ◌*◌, ◌<◌, ◌≤◌, ◌^◌, Bool, true, false, not, cond, nat_eq, List, [], ◌∷◌, length, Option}
-use Rattle.std.proofs.Common.{Some, None, IsSome, refl, sym, ap, subst, arith, ◌∙◌, sum_by, drop, true≢false}
-use Rattle.std.specs.Prelude.{count_by, is_some, is_none, ◌&&◌, ◌||◌, if◌then◌else◌}
+use Rattle.std.proofs.Common.{◌≡◌, ◌≢◌, ℕ, zero, suc, ◌+◌, Bool, true, false, cond, nat_eq, List, [], ◌∷◌, length, Option}
+use Rattle.std.proofs.Common.{Some, None, IsSome, refl, sym, ap, subst, arith, ◌∙◌, true≢false}
+use Rattle.std.specs.Prelude.{count_by, is_none, ◌&&◌, ◌||◌}
 use Rattle.std.specs.Cmp.{nat_eq_equiv}
 use Rattle.std.specs.List.{IsDistinct, AllByRecursion, slice_get, slice_set, list_any, list_all}
-use Rattle.std.specs.Map.{keys_of, values_of, lookup, remove_entry}
+use Rattle.std.specs.Map.{remove_entry}
 use Rattle.std.proofs.lemmas.List.Sums.{sum_by-cons}
 use Rattle.std.proofs.lemmas.Map.Keys.{IsDistinct-cons, IsDistinct-from_apart}
 use Rattle.std.proofs.lemmas.Option.{same_Some}
-use Rattle.naim_core.specs.Charges.{under_part, under_sum}
-use Rattle.naim_core.specs.Sound.{hands_with, wanted_by, read_pins, write_pins, movers, IsFitPool, KeepsPin, MovesByDisk, IsSound}
-use Rattle.naim_core.specs.State.{Core, pool_at, hand_at, holds, moves_by_disk, is_in, is_empty_hand, has_repeat, is_moving, is_pinned}
+use Rattle.naim_core.specs.Charges.{under_part}
+use Rattle.naim_core.specs.Sound.{hands_with, wanted_by, read_pins, write_pins, movers, KeepsPin, MovesByDisk, IsSound}
+use Rattle.naim_core.specs.State.{Core, pool_at, holds, moves_by_disk, is_in, is_empty_hand, has_repeat, is_moving, is_pinned}
 use Rattle.naim_core.specs.declared.event.Mode.TheVariants as mode
 use Rattle.naim_core.specs.declared.pool.Pool.{Pool}
 use Rattle.naim_core.specs.declared.pool.Stage.{Stage}

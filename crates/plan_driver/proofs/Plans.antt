@@ -1,5 +1,5 @@
 -- What is made in pools, one step after another.
-use Rattle.std.proofs.Common.{◌≡◌, ◌*◌, ℕ, Bool, List, [], ◌∷◌, ◌++◌, length, refl, sym, ap, subst, le_trans, le_refl, ◌∙◌}
+use Rattle.std.proofs.Common.{◌≡◌, ◌*◌, ℕ, Bool, List, [], ◌∷◌, ◌++◌, refl, sym, ap, subst, le_trans, le_refl, ◌∙◌}
 use Rattle.std.proofs.lemmas.List.{append-nil, append_assoc}
 use Rattle.std.proofs.lemmas.List.Elements.{Contains-append_left, Contains-append_right}
 use Rattle.il_core.specs.declared.program.IlProgram.{IlProgram}
@@ -10,7 +10,7 @@ use Rattle.naim_core.specs.declared.event.Failure.TheVariants as failure
 use Rattle.naim_loader.specs.Paged.{Paged, IsGood, IsTrusted}
 use Rattle.one_owner.proofs.Frames.{rose_since}
 use Rattle.plan_driver.specs.Noting.{AllNote, GoesOn}
-use Rattle.plan_driver.specs.Planning.{Holds, IsMade, IsNeed, IsReached, PlanCause, StopsMaking}
+use Rattle.plan_driver.specs.Planning.{Holds, IsMade, IsNeed, PlanCause, StopsMaking}
 
 pub notes_on : (xs ys : List (List (ℕ × RoutineBody))) (ps qs : List IlProgram) → AllNote xs ps → AllNote ys qs → AllNote (xs ++ ys) (ps ++ qs)
 notes_on [] ys [] qs a b = b

@@ -1,33 +1,32 @@
 -- The steps of a pass, as steps of the plan.
-use Rattle.std.proofs.Common.{◌≡◌, ◌≤◌, ◌*◌, ◌++◌, ℕ, Bool, true, false, nat_eq, List, [], ◌∷◌, map, length, Option, Some, None, IsSome, refl, sym, ap}
+use Rattle.std.proofs.Common.{◌≡◌, ◌++◌, ℕ, Bool, true, false, nat_eq, List, [], ◌∷◌, map, length, Option, Some, None, IsSome, refl, sym, ap}
 use Rattle.std.proofs.Common.{subst, arith, le_refl, ◌∙◌}
 use Rattle.std.specs.Prelude.{is_some, option_map, ◌||◌, if◌then◌else◌}
 use Rattle.std.specs.List.{AllByRecursion, IsDistinct}
 use Rattle.std.specs.Map.{keys_of}
 use Rattle.std.proofs.lemmas.List.{append-nil}
-use Rattle.list_laws.proofs.Entries.{same_number}
-use Rattle.il_core.specs.Program.{main_pid, routine_at}
+use Rattle.il_core.specs.Program.{routine_at}
 use Rattle.il_core.specs.Routine.{RoutineParts}
-use Rattle.il_core.specs.Valid.{IsProgram, IsValid}
+use Rattle.il_core.specs.Valid.{IsValid}
 use Rattle.il_core.specs.declared.program.IlProgram.{IlProgram}
 use Rattle.il_core.specs.declared.shape.ShapeRow.{ShapeRow}
 use Rattle.il_core.proofs.Found.{found_all}
-use Rattle.il_laws.specs.Reach.{is_in, pruned}
+use Rattle.il_laws.specs.Reach.{is_in}
 use Rattle.il_laws.specs.Simplify.{simplify}
 use Rattle.compact_form.specs.Compact.{compact}
 use Rattle.compact_form.specs.declared.body.RoutineBody.{RoutineBody}
 use Rattle.naim_core.specs.declared.event.Failure.{Failure}
 use Rattle.naim_core.specs.declared.event.Failure.TheVariants as failure
-use Rattle.naim_loader.specs.Paged.{Paged, contents, kept_at, IsTrusted}
+use Rattle.naim_loader.specs.Paged.{Paged, contents, kept_at}
 use Rattle.naim_loader.proofs.Contents.{contents_at}
 use Rattle.one_owner.specs.Alone.{IsResting}
 use Rattle.one_owner.specs.Going.{Stays}
 use Rattle.plan_driver.specs.Budgetless.{simplified}
 use Rattle.plan_driver.specs.Contents.{HavePools, IsContents, routine_in, routine_pids}
-use Rattle.plan_driver.specs.Noting.{GoesOn, Notes}
-use Rattle.plan_driver.specs.Passes.{ChangeCause, ChangesAll, SamePools, StopsChanging}
+use Rattle.plan_driver.specs.Noting.{GoesOn}
+use Rattle.plan_driver.specs.Passes.{ChangeCause, ChangesAll, StopsChanging}
 use Rattle.plan_driver.specs.Planning.{Holds, IsMade, IsNeed, PlanCause, StopsMaking}
-use Rattle.plan_driver.specs.Printing.{Reads, Rests}
+use Rattle.plan_driver.specs.Printing.{Rests}
 use Rattle.plan_driver.specs.Seeing.{SeeCause, StopsSeeing}
 use Rattle.plan_driver.proofs.Held.{found_changed, held_simplified, simplified_pids}
 use Rattle.plan_driver.proofs.Plans.{trusted_before, trusted_still}

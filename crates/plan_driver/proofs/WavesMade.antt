@@ -20,7 +20,7 @@ use Rattle.il_laws.specs.Serving.{Serves}
 use Rattle.il_laws.specs.Splice.{Site, site_at, splice, spliced}
 use Rattle.il_laws.proofs.Serving.{each_follows, found_map, serves_itself}
 use Rattle.plan_laws.specs.ChoiceLaws.{AreCalls}
-use Rattle.plan_laws.specs.Inlining.{bodies, body_for, by_waves, inlined_routines, inlined_with, wave}
+use Rattle.plan_laws.specs.Inlining.{bodies, body_for, by_waves, inlined_routines, inlined_with}
 use Rattle.plan_laws.specs.Levels.{height, is_acyclic, level, waves, waves_from}
 use Rattle.plan_laws.specs.Numbers.{Choice, InlineSite, inline_sites, is_chosen}
 use Rattle.plan_laws.proofs.Chosen.{waves_agree}

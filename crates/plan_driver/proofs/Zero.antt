@@ -1,7 +1,6 @@
 -- The plan of budget 0 is one pass after another, and what it makes is as good as what it began with.
-use Rattle.std.proofs.Common.{◌≡◌, ◌≤◌, ℕ, zero, suc, List, [], ◌∷◌, ◌++◌, map, refl, sym, ap, subst, arith, le_trans, ◌∙◌}
+use Rattle.std.proofs.Common.{◌≡◌, ℕ, zero, suc, List, [], ◌∷◌, ◌++◌, map, refl, sym, ap, subst, arith, le_trans, ◌∙◌}
 use Rattle.std.specs.Prelude.{flat_map}
-use Rattle.il_core.specs.Program.{main_pid}
 use Rattle.il_core.specs.Size.{cost}
 use Rattle.il_core.specs.Valid.{IsProgram}
 use Rattle.il_core.specs.declared.program.IlProgram.{IlProgram}
@@ -12,7 +11,7 @@ use Rattle.il_laws.proofs.Charges.{simplify_no_larger}
 use Rattle.il_laws.proofs.KeptPrograms.{pruned_follows}
 use Rattle.il_laws.proofs.Serving.{run_kept}
 use Rattle.il_laws.proofs.Simplified.{change_all, simplify_serves}
-use Rattle.plan_laws.specs.Plan.{Pass, State, at_first, final, last_program, limit_of, one_pass, passes_from, plan, states_of}
+use Rattle.plan_laws.specs.Plan.{Pass, State, at_first, final, last_program, limit_of, passes_from, plan, states_of}
 use Rattle.plan_laws.proofs.Spending.{filter_cost, map_cost}
 use Rattle.plan_driver.specs.BudgetLaws.{IsAsGood, PlansAtZero, simplifying_pass}
 use Rattle.plan_driver.specs.Budgetless.{pass_programs, passed, simplified}

@@ -1,5 +1,5 @@
 -- A plan that is made in pools.
-use Rattle.std.specs.Prelude.{◌≡◌, ◌≢◌, ◌<◌, ◌*◌, ◌^◌, ◌++◌, ℕ, Bool, true, List, length, Contains, Some, ⊤}
+use Rattle.std.specs.Prelude.{◌≡◌, ◌≢◌, ◌<◌, ◌*◌, ◌^◌, ℕ, Bool, true, List, length, Contains, Some, ⊤}
 use Rattle.outside.specs.Faults.{Rose}
 use Rattle.il_core.specs.Program.{main_pid, routine_at}
 use Rattle.il_core.specs.Routine.{RoutineParts}

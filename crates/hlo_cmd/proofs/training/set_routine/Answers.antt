@@ -1,5 +1,4 @@
-use Rattle.std.proofs.Common.{◌≤◌, arith}
-use Rattle.il_core.specs.Size.{blocks_size}
+use Rattle.std.proofs.Common.{arith}
 use Rattle.hlo_cmd.proofs.Trainings.{sites_within}
 use Rattle.hlo_cmd.proofs.training.set_routine.Goals as goal
 

@@ -1,6 +1,5 @@
-use Rattle.std.proofs.Common.{◌≡◌, ◌<◌, ◌∙◌, ℕ, List, sym, ap, subst, arith, length, map, get_or}
-use Rattle.profile.specs.Counts.{Profiled}
-use Rattle.hlo_cmd.specs.Training.{counted_lines, routine_lines}
+use Rattle.std.proofs.Common.{◌<◌, ◌∙◌, ℕ, List, ap, arith, length, map, get_or}
+use Rattle.hlo_cmd.specs.Training.{routine_lines}
 use Rattle.il_core.specs.Program.{name_at}
 use Rattle.hlo_cmd.proofs.Trainings.{as_many, routine_next, sets, sites_at}
 use Rattle.hlo_cmd.proofs.training.set_routines.Goals as goal

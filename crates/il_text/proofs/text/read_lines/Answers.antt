@@ -24,7 +24,8 @@ returns-else-is_empty-clause-fault c = no_more_lines c.loop-bytes.partial c.args
 pub returns-in_err-partial-clause-memory : goal.returns-in_err-partial-clause-memory
 returns-in_err-partial-clause-memory c = λ f whole.
     let p = err_from_is_err_and c.from_residual.result c.from_residual.ensures.1 in
-    rw (p.1, p.2) (only_memory f c.loop-bytes.partial c.loop-bytes.rest.now c.in-Some.bytes.now c.in-Some.behind.now c.loop-bytes.number c.in_err-partial.field-0.0
+    rw (p.1, p.2) (only_memory f c.loop-bytes.partial c.loop-bytes.rest.now c.in-Some.bytes.now c.in-Some.behind.now c.loop-bytes.number
+    c.in_err-partial.field-0.0
     whole.fit c.loop-bytes.invariant.fit (c.loop-bytes.invariant.ahead f whole) c.in-Some.ensures.found c.in-Some.ensures.line c.in_err-partial.ensures.fault)
 
 pub returns-then-is_done-clause-each : goal.returns-then-is_done-clause-each

@@ -1,4 +1,4 @@
-use Rattle.std.proofs.Common.{◌≡◌, ◌++◌, sym, ap, ◌∙◌}
+use Rattle.std.proofs.Common.{◌++◌, ap, ◌∙◌}
 use Rattle.naim_core.specs.Runs.{replies_to}
 use Rattle.naim_core.proofs.Replays.{state_on, replies_on, named_on}
 use Rattle.naim_core.proofs.history.replay.Goals as goal

@@ -1,4 +1,4 @@
-use Rattle.std.proofs.Common.{◌≡◌, ◌≢◌, ℕ, ◌+◌, ◌<◌, get_or}
+use Rattle.std.proofs.Common.{◌≢◌, ℕ, ◌+◌, ◌<◌, get_or}
 use Rattle.naim_core.proofs.scratch.has_equal_neighbours.Given as goal
 
 -- the neighbours below this place differ

@@ -1,8 +1,6 @@
-use Rattle.std.proofs.Common.{◌≡◌, nat_eq, ℕ, Option, Some, None, sym, ap, ◌∙◌, refl}
+use Rattle.std.proofs.Common.{◌≡◌, Some, None, sym, ap, ◌∙◌}
 use Rattle.std.specs.List.{slice_get}
 use Rattle.std.proofs.lemmas.Option.{slice_get-get_or}
-use Rattle.naim_core.specs.declared.pool.Pool.{Pool}
-use Rattle.naim_core.specs.Table.{pid_at}
 use Rattle.naim_core.proofs.Tables.{slot_pid}
 use Rattle.naim_core.proofs.table.found_at.Goals as goal
 

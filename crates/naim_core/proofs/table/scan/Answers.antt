@@ -1,4 +1,4 @@
-use Rattle.std.proofs.Common.{◌≡◌, nat_eq, ◌∷◌, [], ◌++◌, Some, None, sym, ap, subst, ◌∙◌, refl}
+use Rattle.std.proofs.Common.{nat_eq, ◌∷◌, [], ◌++◌, Some, sym, ap, ◌∙◌}
 use Rattle.std.specs.Map.{lookup}
 use Rattle.naim_core.specs.Table.{pools_in}
 use Rattle.list_laws.proofs.Entries.{other_number}

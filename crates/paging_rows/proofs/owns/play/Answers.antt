@@ -1,5 +1,4 @@
 use Rattle.std.proofs.Common.{[], refl}
-use Rattle.one_owner.specs.Alone.{IsResting}
 use Rattle.paging_rows.proofs.owns.play.Goals as goal
 
 pub put_three-requires-clause-rests : goal.put_three-requires-clause-rests

@@ -1,4 +1,4 @@
-use Rattle.std.proofs.Common.{◌≡◌, length, take, IsPermutation, sym, ap, subst, ◌∙◌}
+use Rattle.std.proofs.Common.{ap, ◌∙◌}
 use Rattle.std.proofs.lemmas.List.{take_all}
 use Rattle.naim_core.specs.State.{has_repeat}
 use Rattle.naim_core.proofs.Repeat.{repeat_permuted}

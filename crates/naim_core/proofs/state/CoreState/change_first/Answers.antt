@@ -1,13 +1,13 @@
-use Rattle.std.proofs.Common.{◌≡◌, ◌<◌, length, Some, None, sym, ap, subst, ◌∙◌, refl}
+use Rattle.std.proofs.Common.{◌≡◌, ◌<◌, length, sym, ap, subst, refl}
 use Rattle.std.specs.Prelude.{is_some, slice_set}
 use Rattle.std.specs.Vec.{vec_capacity}
 use Rattle.naim_core.specs.Sound.{IsSound}
 use Rattle.naim_core.specs.State.{hand_at}
-use Rattle.naim_core.specs.Steps.{front, in_place}
+use Rattle.naim_core.specs.Steps.{front}
 use Rattle.naim_core.specs.View.{core_of}
 use Rattle.naim_core.proofs.Bounds.{sums_fit}
 use Rattle.naim_core.proofs.Kept.{kept_hand}
-use Rattle.list_laws.proofs.Entries.{number_itself, lookup_set}
+use Rattle.list_laws.proofs.Entries.{number_itself}
 use Rattle.naim_core.proofs.state.CoreState.change_first.Goals as goal
 
 pub put_first-requires-clause-held_fits : goal.put_first-requires-clause-held_fits

@@ -1,7 +1,5 @@
-use Rattle.std.proofs.Common.{◌≡◌, ◌<◌, ◌+◌, length, drop, get_or, Some, None, sym, ap, subst, ◌∙◌, refl, arith}
-use Rattle.std.specs.Prelude.{is_some}
+use Rattle.std.proofs.Common.{◌<◌, ◌+◌, length, drop, sym, subst, refl, arith}
 use Rattle.std.specs.Vec.{vec_capacity}
-use Rattle.naim_core.specs.State.{hand_at}
 use Rattle.naim_core.specs.View.{core_of}
 use Rattle.naim_core.proofs.Cuts.{next_of, kept_claim, claim_follows}
 use Rattle.naim_core.proofs.Told.{read_hand, read_hand_at, none_of}

@@ -1,4 +1,4 @@
-use Rattle.std.proofs.Common.{◌≡◌, ◌<◌, ◌++◌, ◌∷◌, [], length, Some, None, sym, ap, subst, ◌∙◌, refl, arith}
+use Rattle.std.proofs.Common.{◌≡◌, ◌<◌, ◌++◌, ◌∷◌, [], length, Some, sym, subst, refl, arith}
 use Rattle.std.specs.Prelude.{slice_set}
 use Rattle.std.specs.Vec.{vec_capacity}
 use Rattle.naim_core.specs.Sound.{IsSound}

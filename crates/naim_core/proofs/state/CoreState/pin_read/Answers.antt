@@ -1,7 +1,7 @@
-use Rattle.std.proofs.Common.{◌≡◌, Some, None, sym, ap, ◌∙◌, refl, rules}
+use Rattle.std.proofs.Common.{sym, ◌∙◌, refl, rules}
 use Rattle.naim_core.specs.View.{core_of}
 use Rattle.naim_core.proofs.Bounds.{few_readers}
-use Rattle.naim_core.proofs.Told.{pin_read_keeps, pin_read_follows, pin_read_refused, task_same, pin_task}
+use Rattle.naim_core.proofs.Told.{pin_read_keeps, pin_read_follows, pin_read_refused, task_same}
 use Rattle.naim_core.proofs.state.CoreState.pin_read.Goals as goal
 
 pub pin_read-requires : goal.pin_read-requires

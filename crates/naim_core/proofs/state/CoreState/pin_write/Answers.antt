@@ -1,7 +1,6 @@
-use Rattle.std.proofs.Common.{◌≡◌, Some, None, sym, ap, ◌∙◌, refl, rules}
+use Rattle.std.proofs.Common.{sym, ◌∙◌, refl, rules}
 use Rattle.naim_core.specs.View.{core_of}
-use Rattle.naim_core.proofs.Bounds.{few_readers}
-use Rattle.naim_core.proofs.Told.{pin_write_keeps, pin_write_follows, pin_write_refused, task_same, pin_task}
+use Rattle.naim_core.proofs.Told.{pin_write_keeps, pin_write_follows, pin_write_refused, task_same}
 use Rattle.naim_core.proofs.state.CoreState.pin_write.Goals as goal
 
 pub returns-in_err-next : goal.returns-in_err-next

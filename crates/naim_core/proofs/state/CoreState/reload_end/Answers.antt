@@ -1,7 +1,6 @@
-use Rattle.std.proofs.Common.{◌≡◌, Some, None, sym, ap, ◌∙◌, refl, rules}
+use Rattle.std.proofs.Common.{sym, ◌∙◌, rules}
 use Rattle.naim_core.specs.View.{core_of}
-use Rattle.naim_core.proofs.Bounds.{few_readers}
-use Rattle.naim_core.proofs.Told.{reload_end_keeps, reload_end_follows, reload_end_refused, task_same, pin_task}
+use Rattle.naim_core.proofs.Told.{reload_end_keeps, reload_end_follows, reload_end_refused, task_same}
 use Rattle.naim_core.proofs.state.CoreState.reload_end.Goals as goal
 
 pub returns-in_err-next : goal.returns-in_err-next

@@ -1,7 +1,6 @@
-use Rattle.std.proofs.Common.{◌≡◌, Some, None, sym, ap, ◌∙◌, refl, rules}
+use Rattle.std.proofs.Common.{sym, ◌∙◌, refl, rules}
 use Rattle.naim_core.specs.View.{core_of}
-use Rattle.naim_core.proofs.Bounds.{few_readers}
-use Rattle.naim_core.proofs.Told.{unpin_read_keeps, unpin_read_follows, unpin_read_refused, task_same, pin_task}
+use Rattle.naim_core.proofs.Told.{unpin_read_keeps, unpin_read_follows, unpin_read_refused, task_same}
 use Rattle.naim_core.proofs.state.CoreState.unpin_read.Goals as goal
 
 pub unpin_read-requires-clause-read : goal.unpin_read-requires-clause-read

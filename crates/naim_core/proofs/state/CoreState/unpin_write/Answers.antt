@@ -1,4 +1,4 @@
-use Rattle.std.proofs.Common.{◌≡◌, Some, None, sym, ap, ◌∙◌, refl, rules}
+use Rattle.std.proofs.Common.{sym, ◌∙◌, refl, rules}
 use Rattle.naim_core.specs.View.{core_of}
 use Rattle.naim_core.proofs.Told.{unpin_write_done, unpin_write_other, unpin_write_follows_done, unpin_write_follows_other, unpin_write_refused}
 use Rattle.naim_core.proofs.Told.{task_same, eq_some, ne_some}
