@@ -5,3 +5,4 @@ pub mod Text
 pub mod Spans
 pub mod Machine
 pub mod Reading
+pub use Rattle.hlo_num.specs.Words

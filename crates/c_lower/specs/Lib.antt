@@ -4,3 +4,13 @@ pub mod Settings
 pub mod Settled
 pub mod Statements
 pub mod Lowering
+pub use Rattle.c_typed.specs.Operators
+pub use Rattle.c_typed.specs.Views
+pub use Rattle.hlo_num.specs.Words
+pub use Rattle.il_core.specs.Limits
+pub use Rattle.lower_laws.specs.Bound
+pub use Rattle.lower_laws.specs.Code
+pub use Rattle.lower_laws.specs.Functions
+pub use Rattle.lower_laws.specs.Operations
+pub use Rattle.lower_laws.specs.Switches
+pub use Rattle.profile.specs.Counts

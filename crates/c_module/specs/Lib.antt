@@ -10,3 +10,14 @@ pub mod Texts
 pub mod Told
 pub mod Verdict
 pub mod WellTyped
+pub use Rattle.c_lower.specs.Lowering
+pub use Rattle.c_typed.specs.Views
+pub use Rattle.il_core.specs.Program
+pub use Rattle.il_core.specs.Routine
+pub use Rattle.il_core.specs.Shapes
+pub use Rattle.linker.specs.Linking
+pub use Rattle.outside.specs.Faults
+pub use Rattle.profile.specs.Counts
+pub use Rattle.program_laws.specs.Growing
+pub use Rattle.sym_tables.specs.Listing
+pub use Rattle.sym_tables.specs.Table

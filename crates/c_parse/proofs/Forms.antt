@@ -1,5 +1,5 @@
 -- Which rules an expression of a form can come from, and the rules of a rank as a first form that grows.
-use Rattle.std.proofs.Common.{ℕ, zero, suc, ◌≡◌, refl, sym, ◌∙◌, ap, subst, Bool, true, false, List, inl, inr, Option, Some, None, arith}
+use Rattle.std.proofs.Common.{ℕ, zero, suc, ◌≡◌, refl, sym, ◌∙◌, ap, subst, Bool, true, false, List, inl, inr, Option, Some, None}
 use Rattle.c_tree.specs.declared.token.Token.{Token}
 use Rattle.c_tree.specs.declared.token.TokenKind.{TokenKind}
 use Rattle.c_tree.specs.declared.token.TokenKind.TheVariants as kinds
@@ -20,7 +20,6 @@ use Rattle.c_parse.specs.Expressions.{IsConditional, IsAssignment, IsRank, IsExp
 use Rattle.c_parse.specs.ExpressionReaders.{postfix_layer, unary_layer, closed_layer, is_postfix, is_unary, is_condition, Typed, Inner, opened}
 use Rattle.c_parse.proofs.Maps.{Each, Any, each_any, each_made, each_either}
 use Rattle.c_parse.proofs.Operands.{ParenL, CastOrParenL, PrefixedL, OperandL}
-use Rattle.c_parse.proofs.Bounds.{higher}
 
 -- the tests on a node
 pub postfix_node : (x : Expr-F Expr Specifier Enumerator Specifiers) (h : ℕ) → is_postfix (node x h) ≡ postfix_layer x

@@ -1,5 +1,5 @@
 -- The grammar at small lists of tokens.
-use Rattle.std.proofs.Common.{ℕ, ◌≡◌, ◌+◌, ◌<◌, refl, sym, ap, subst, Bool, true, false, List, [], ◌∷◌, ◌++◌, length, length-append, take, arith}
+use Rattle.std.proofs.Common.{ℕ, ◌≡◌, ◌+◌, ◌<◌, refl, ap, subst, Bool, true, false, [], ◌∷◌, length, length-append, take, arith}
 use Rattle.c_tree.specs.declared.token.Token.{Token}
 use Rattle.c_tree.specs.declared.token.TokenKind.TheVariants as kinds
 use Rattle.c_tree.specs.declared.token.Punct.TheVariants as p
@@ -16,7 +16,7 @@ use Rattle.c_parse.specs.Trees.{Sized, node, binary, if_only, if_else, empty}
 use Rattle.c_parse.specs.Expressions.{Binary, IsExpr}
 use Rattle.c_parse.specs.Modules.{IsStmt}
 use Rattle.c_parse.specs.Promise.{Continues}
-use Rattle.c_parse.specs.Reading.{Reply, Found}
+use Rattle.c_parse.specs.Reading.{Found}
 use Rattle.c_parse.specs.ExpressionReaders.{read_expr}
 use Rattle.c_parse.specs.ModuleReaders.{read_stmt}
 use Rattle.c_parse.proofs.Words.{token, mark, reserved}

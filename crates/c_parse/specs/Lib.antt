@@ -11,3 +11,4 @@ pub mod ModuleParts
 pub mod Reading
 pub mod ExpressionReaders
 pub mod ModuleReaders
+pub use Rattle.c_tree.specs.Lines

@@ -19,7 +19,6 @@ use Rattle.c_types.specs.declared.statements.Around.{Around}
 use Rattle.c_types.specs.Follows.{Follows, Tells}
 use Rattle.c_types.specs.Rules.{Here, Reply, Gives, Breaks, Rule, followed, give, ◌>>=◌}
 use Rattle.c_types.specs.StatementRules as rules
-use Rattle.c_types.proofs.Orders.{tells_after}
 
 pub statements_are : (b : Block) (a : Around)
     → (rules.blocking b).statements a ≡ (rules.declarations b.declarations >>= λ ds. rules.statements a (map rules.ruling b.statements) >>= λ ss. give

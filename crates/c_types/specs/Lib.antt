@@ -15,3 +15,6 @@ pub mod StatementRules
 pub mod Typing
 pub mod Uses
 pub mod WordCounts
+pub use Rattle.hlo_num.specs.Name
+pub use Rattle.sym_tables.specs.Entities
+pub use Rattle.sym_tables.specs.Table

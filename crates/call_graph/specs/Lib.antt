@@ -1,3 +1,14 @@
 pub mod Calls
 pub mod Reach
 pub mod Summaries
+pub use Rattle.const_prop.specs.Sites
+pub use Rattle.const_prop.specs.Tables
+pub use Rattle.il_core.specs.Limits
+pub use Rattle.il_core.specs.Operands
+pub use Rattle.il_core.specs.Shapes
+pub use Rattle.il_laws.specs.Facts
+pub use Rattle.il_laws.specs.Known
+pub use Rattle.il_laws.specs.Live
+pub use Rattle.il_laws.specs.Splice
+pub use Rattle.plan_laws.specs.Dead
+pub use Rattle.plan_laws.specs.Summary

@@ -1,5 +1,5 @@
 -- A loop over blocks whose ends are folded.
-use Rattle.std.proofs.Common.{◌≡◌, ℕ, ◌+◌, ◌<◌, List, [], ◌∷◌, ◌++◌, get_or, set, drop, take, length, refl, ap, subst, sym, ◌∙◌, arith, eq-eqb}
+use Rattle.std.proofs.Common.{◌≡◌, ℕ, ◌+◌, ◌<◌, List, [], ◌∷◌, get_or, set, drop, length, refl, ap, subst, sym, ◌∙◌, arith, eq-eqb}
 use Rattle.std.specs.Prelude.{Option, Bool, true, nat_eq, if◌then◌else◌}
 use Rattle.std.specs.List.{AllByRecursion}
 use Rattle.il_core.specs.declared.instr.Block.{Block}

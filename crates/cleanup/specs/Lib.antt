@@ -2,3 +2,16 @@ pub mod Bits
 pub mod Ends
 pub mod Marks
 pub mod Merges
+pub use Rattle.const_prop.specs.Flow
+pub use Rattle.const_prop.specs.Tables
+pub use Rattle.il_core.specs.Limits
+pub use Rattle.il_core.specs.Meaning
+pub use Rattle.il_core.specs.Operands
+pub use Rattle.il_laws.specs.Edges
+pub use Rattle.il_laws.specs.Facts
+pub use Rattle.il_laws.specs.Live
+pub use Rattle.il_laws.specs.Merge
+pub use Rattle.il_laws.specs.Propagate
+pub use Rattle.il_laws.specs.Renumber
+pub use Rattle.il_laws.specs.Simplify
+pub use Rattle.il_laws.specs.Unreachable

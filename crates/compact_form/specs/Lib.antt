@@ -7,3 +7,6 @@ pub mod Numbers
 pub mod Reading
 pub mod Routines
 pub mod Spellings
+pub use Rattle.il_core.specs.Limits
+pub use Rattle.il_core.specs.Ranges
+pub use Rattle.il_core.specs.Size

@@ -1,8 +1,8 @@
 -- A loop over blocks that are changed by the facts at their starts.
 use Rattle.std.proofs.Common.{◌≡◌, ℕ, zero, suc, ◌+◌, ◌<◌, ◌≤◌, List, [], ◌∷◌, ◌++◌, get_or, set, take, drop, length, refl, ap, subst, sym, ◌∙◌, arith}
 use Rattle.std.proofs.Common.{append_assoc, length-set, slice_get}
-use Rattle.std.specs.Prelude.{Bool, true, false, not, ◌&&◌, ◌||◌, Option, Some, None}
-use Rattle.std.specs.List.{AllByRecursion, list_any}
+use Rattle.std.specs.Prelude.{Bool, true, not, ◌&&◌, Option, Some}
+use Rattle.std.specs.List.{AllByRecursion}
 use Rattle.il_core.specs.Operands.{end_reads}
 use Rattle.std.proofs.lemmas.List.{drop_all, drop_more, drop-set-lt, take_all, take_more_set, append-nil}
 use Rattle.il_core.specs.declared.instr.Block.{Block}

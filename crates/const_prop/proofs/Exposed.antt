@@ -1,5 +1,5 @@
 -- Facts of the registers that instructions read before they write them decide what the instructions do to facts.
-use Rattle.std.proofs.Common.{◌≡◌, ℕ, ◌<◌, List, [], ◌∷◌, ◌++◌, map, Bool, true, false, refl, ap, sym, ◌∙◌, eq-eqb}
+use Rattle.std.proofs.Common.{◌≡◌, ℕ, ◌<◌, List, [], ◌∷◌, ◌++◌, map, Bool, true, false, refl, ap, ◌∙◌, eq-eqb}
 use Rattle.std.specs.Prelude.{Option, not, ◌||◌, ◌&&◌, if◌then◌else◌, option_map, nat_eq}
 use Rattle.std.specs.List.{AllByRecursion, list_any}
 use Rattle.hlo_num.specs.Words.{convert}

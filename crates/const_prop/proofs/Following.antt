@@ -8,7 +8,7 @@ use Rattle.il_core.specs.declared.instr.Block.{Block}
 use Rattle.il_core.specs.declared.instr.End.{End}
 use Rattle.il_core.specs.Routine.{RoutineParts}
 use Rattle.il_laws.specs.Facts.{Facts, Passed, looped, written, jumps_to, both_know, meet, arriving, known, start, one_more, before, facts_at, through}
-use Rattle.const_prop.specs.Tables.{facts_in, Has, AreMarks}
+use Rattle.const_prop.specs.Tables.{facts_in, AreMarks}
 use Rattle.const_prop.specs.Carried.{Carries, Knows, RestoresIfSome, placed, placed_if_some, row_of}
 use Rattle.const_prop.specs.Flow.{HasIfSome, IsSizedIfSome, IsSized, Entered, Left, Follows, Starts, facts_of, arrived, bare, quiet, zeros}
 use Rattle.const_prop.specs.declared.flow.Flow.{Flow}

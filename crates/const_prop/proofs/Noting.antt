@@ -9,8 +9,8 @@ use Rattle.il_core.specs.declared.instr.End.{End}
 use Rattle.il_core.specs.declared.instr.End.TheVariants as ends
 use Rattle.il_core.specs.declared.instr.Instr.{Instr}
 use Rattle.il_core.specs.Operands.{reads, writes, end_reads, end_source, is_named}
-use Rattle.il_laws.specs.Facts.{any_writes, jumps_to}
-use Rattle.const_prop.specs.Carried.{StandsIn, IsTaken, TakesHere, is_exposed, needs, row_of}
+use Rattle.il_laws.specs.Facts.{any_writes}
+use Rattle.const_prop.specs.Carried.{StandsIn, IsTaken, TakesHere, is_exposed, row_of}
 use Rattle.const_prop.specs.Taking.{IsStamped, IsTaking, Noted, Took, TookNeeded, TookPassed, TookRow}
 use Rattle.const_prop.specs.declared.carried.Taking.{Taking}
 use Rattle.list_laws.proofs.Elements.{drop_read}

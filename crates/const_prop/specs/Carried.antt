@@ -1,8 +1,7 @@
 -- Registers whose facts are carried from block to block.
-use Rattle.std.specs.Prelude.{◌≡◌, ◌≢◌, ℕ, ◌+◌, ◌<◌, ◌≤◌, ◌||◌, ◌&&◌, Bool, true, false, not, List, [], ◌∷◌, Option, Some, None, length, option_map}
+use Rattle.std.specs.Prelude.{◌≡◌, ℕ, ◌+◌, ◌<◌, ◌≤◌, ◌||◌, ◌&&◌, Bool, true, false, not, List, [], ◌∷◌, Option, Some, None, length, option_map}
 use Rattle.std.specs.Prelude.{slice_get, slice_index_or}
 use Rattle.il_core.specs.declared.instr.Block.{Block}
-use Rattle.il_core.specs.declared.instr.End.{End}
 use Rattle.il_core.specs.declared.instr.Instr.{Instr}
 use Rattle.il_core.specs.Operands.{reads, writes, end_reads}
 use Rattle.il_laws.specs.Facts.{Facts, any_writes, jumps_to}

@@ -3,3 +3,8 @@ pub mod Flow
 pub mod Sites
 pub mod Taking
 pub mod Tables
+pub use Rattle.il_core.specs.Meaning
+pub use Rattle.il_core.specs.Operands
+pub use Rattle.il_laws.specs.Facts
+pub use Rattle.il_laws.specs.Known
+pub use Rattle.il_laws.specs.Propagate

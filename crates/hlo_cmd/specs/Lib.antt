@@ -14,3 +14,15 @@ pub mod Sizes
 pub mod Train
 pub mod Training
 pub mod Words
+pub use Rattle.c_module.specs.Assembling
+pub use Rattle.il_core.specs.Limits
+pub use Rattle.il_core.specs.Program
+pub use Rattle.il_core.specs.Valid
+pub use Rattle.linker.specs.Linking
+pub use Rattle.naim_loader.specs.Paged
+pub use Rattle.one_owner.specs.Alone
+pub use Rattle.outside.specs.Faults
+pub use Rattle.outside.specs.Taken
+pub use Rattle.plan_driver.specs.Contents
+pub use Rattle.profile.specs.Texts
+pub use Rattle.sym_tables.specs.Table

@@ -8,3 +8,12 @@ pub mod Start
 pub mod Streams
 pub mod Tables
 pub mod Words
+pub use Rattle.il_core.specs.Limits
+pub use Rattle.il_core.specs.Meaning
+pub use Rattle.il_core.specs.Program
+pub use Rattle.il_core.specs.Routine
+pub use Rattle.il_core.specs.Shapes
+pub use Rattle.il_core.specs.Size
+pub use Rattle.il_core.specs.Valid
+pub use Rattle.il_core.specs.World
+pub use Rattle.outside.specs.Faults

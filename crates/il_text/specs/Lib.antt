@@ -15,3 +15,11 @@ pub mod Assembled
 pub mod Checked
 pub mod ReadFaults
 pub mod Whole
+pub use Rattle.hlo_num.specs.Name
+pub use Rattle.il_core.specs.Limits
+pub use Rattle.il_core.specs.Object
+pub use Rattle.il_core.specs.Program
+pub use Rattle.il_core.specs.Ranges
+pub use Rattle.il_core.specs.Size
+pub use Rattle.il_core.specs.Text
+pub use Rattle.il_core.specs.Valid

@@ -6,3 +6,10 @@ pub mod Following
 pub mod Linked
 pub mod Ranking
 pub mod Tables
+pub use Rattle.call_graph.specs.Summaries
+pub use Rattle.il_core.specs.Limits
+pub use Rattle.plan_laws.specs.Choosing
+pub use Rattle.plan_laws.specs.Levels
+pub use Rattle.plan_laws.specs.Numbers
+pub use Rattle.plan_laws.specs.Orders
+pub use Rattle.plan_laws.specs.Summary

@@ -1,3 +1,10 @@
 pub mod Copies
 pub mod Places
 pub mod Sites
+pub use Rattle.const_prop.specs.Tables
+pub use Rattle.il_core.specs.Limits
+pub use Rattle.il_core.specs.Meaning
+pub use Rattle.il_core.specs.Operands
+pub use Rattle.il_core.specs.Size
+pub use Rattle.il_core.specs.World
+pub use Rattle.il_laws.specs.Splice

@@ -1,1 +1,2 @@
 pub mod Linking
+pub use Rattle.sym_tables.specs.Table

@@ -10,3 +10,9 @@ pub mod Parts
 pub mod Rows
 pub mod Trails
 pub mod Whole
+pub use Rattle.naim_core.specs.Charges
+pub use Rattle.naim_core.specs.Sound
+pub use Rattle.naim_core.specs.State
+pub use Rattle.naim_core.specs.Steps
+pub use Rattle.outside.specs.Places
+pub use Rattle.repository.specs.Filing

@@ -4,3 +4,11 @@ pub mod Causes
 pub mod Going
 pub mod Reloading
 pub mod Rounds
+pub use Rattle.naim_core.specs.Charges
+pub use Rattle.naim_core.specs.Rows
+pub use Rattle.naim_core.specs.Sound
+pub use Rattle.naim_loader.specs.Calls
+pub use Rattle.naim_loader.specs.Contents
+pub use Rattle.naim_loader.specs.Drafts
+pub use Rattle.naim_loader.specs.Moves
+pub use Rattle.naim_loader.specs.Paged

@@ -1,2 +1,3 @@
 pub mod Filing
 pub mod Record
+pub use Rattle.outside.specs.Faults

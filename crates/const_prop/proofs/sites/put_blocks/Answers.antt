@@ -1,4 +1,4 @@
-use Rattle.std.proofs.Common.{◌≡◌, ◌∙◌, ◌++◌, List, ℕ, ap, sym, subst, length}
+use Rattle.std.proofs.Common.{◌≡◌, ◌∙◌, ◌++◌, List, ℕ, sym, subst, length}
 use Rattle.std.specs.List.{AllByRecursion}
 use Rattle.il_core.specs.declared.instr.Instr.{Instr}
 use Rattle.il_laws.specs.Facts.{through}

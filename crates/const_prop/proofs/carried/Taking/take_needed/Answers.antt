@@ -1,4 +1,4 @@
-use Rattle.std.proofs.Common.{◌≡◌, ◌∙◌, refl, sym, ap, ℕ, length, Bool, true, false}
+use Rattle.std.proofs.Common.{◌∙◌, refl, sym, ap, ℕ, length, true, false}
 use Rattle.std.proofs.lemmas.Bool.{true≢false}
 use Rattle.std.specs.Prelude.{Option}
 use Rattle.il_core.specs.Operands.{is_named}

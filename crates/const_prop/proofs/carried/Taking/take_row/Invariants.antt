@@ -1,4 +1,4 @@
-use Rattle.std.proofs.Common.{◌≡◌, ◌≢◌, ℕ, ◌<◌, ◌≤◌, length, get_or}
+use Rattle.std.proofs.Common.{◌≢◌, ℕ, ◌<◌, length, get_or}
 use Rattle.const_prop.specs.Carried.{StandsIn}
 use Rattle.const_prop.specs.Taking.{IsTaking, Took}
 use Rattle.const_prop.proofs.carried.Taking.take_row.Given as goal
