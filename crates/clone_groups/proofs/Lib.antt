@@ -6,6 +6,7 @@ mod FixedAt
 mod Gathered
 mod InPlace
 mod Joining
+pub mod Members
 mod Moving
 mod Noting
 mod Ranked

@@ -1,5 +1,7 @@
 //! Which clone stands for which callee and constants.
-ghost use Rattle.std.specs.Prelude.{◌≡◌, [], ◌∷◌, filter, nat_eq, not, reverse, OnErr, OnOk};
+ghost use Rattle.std.specs.Prelude.{◌≡◌, [], ◌∷◌, filter, reverse, OnErr, OnOk};
+ghost use Rattle.il_core.specs.Shapes.{IsRising};
+ghost use Rattle.il_laws.specs.Reach.{is_in};
 ghost use Rattle.plan_laws.specs.Groups.{clone_in, is_row_of, same_fixed};
 ghost use Rattle.clone_groups.specs.Fixing.{fixed_of};
 ghost use Rattle.clone_groups.specs.Keys.{fixed_in};
@@ -64,6 +66,13 @@ impl CloneRow {
     }
 }
 
+/// Whether a PID is among these. Where they don't rise it answers either. It takes time for a search by halves.
+fn is_among(pids: &[u32], pid: u32) -> bool
+    ensures { IsRising (λ p. p) pids.now → result ≡ is_in pids.now pid }
+{
+    pids.binary_search(&pid).is_ok()
+}
+
 /// Whether constants are the same, in their order.
 fn are_same(some: &[(u32, u32)], others: &[(u32, Word)]) -> bool
     ensures { result ≡ same_fixed (fixed_in some.now) (fixed_of others.now) }
@@ -112,11 +121,13 @@ impl CloneTable {
         self.rows.as_slice()
     }
 
-    /// Drops the rows of a clone that doesn't stand any more. It takes time in proportion to the rows.
-    pub fn drop_dead(&mut self, pid: u32)
-        ensures { self.new ≡ filter (λ row. not (nat_eq row.clone pid)) self.old }
+    /// Keeps the rows of the clones that are among these PIDs, which rise: those that stand still. It takes a search by
+    /// halves for each row, and no memory.
+    pub fn keep(&mut self, live: &[u32])
+        requires { IsRising (λ p. p) live.now }
+        ensures { self.new ≡ filter (λ row. is_in live.now row.clone) self.old }
     {
-        self.rows.retain(|row: &CloneRow| row.clone != pid);
+        self.rows.retain(|row: &CloneRow| is_among(live, row.clone));
     }
 
     /// The newest clone for a callee and constants, if there is one. It takes time in proportion to the rows, and no

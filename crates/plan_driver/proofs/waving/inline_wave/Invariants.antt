@@ -1,6 +1,0 @@
-use Rattle.plan_driver.specs.Accepting.{is_accepted}
-use Rattle.plan_driver.proofs.Wave.{Done}
-use Rattle.plan_driver.proofs.waving.inline_wave.Given as goal
-
-abbrev pub invariant-loop-pid : goal.invariant-loop-pid
-invariant-loop-pid g l = Done g.D.Disk.reach g.D.Disk.honest g.D.Disk.faults l.shapes (is_accepted l.accepted) l.pids l.fn.loader l.loader l.pid-index
