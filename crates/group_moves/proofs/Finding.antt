@@ -6,8 +6,8 @@ use Rattle.std.proofs.lemmas.Bool.{cases_lt}
 use Rattle.list_laws.proofs.Entries.{number_itself, other_number}
 use Rattle.il_core.specs.Shapes.{IsRising, IsRisingFrom}
 use Rattle.clone_groups.specs.Moves.{moves_of}
-use Rattle.plan_driver.specs.Retargeting.{moves_for}
-use Rattle.plan_driver.specs.declared.moves.CallerMoves.{CallerMoves}
+use Rattle.plan_pools.specs.Retargeting.{moves_for}
+use Rattle.plan_pools.specs.declared.moves.CallerMoves.{CallerMoves}
 use Rattle.group_moves.specs.Gathering.{has_moves, some_moves}
 
 module _ (f : ℕ → List (ℕ × ℕ)) where

@@ -7,7 +7,7 @@ use Rattle.std.proofs.lemmas.List.{get_or-set_other, get_or-set_same, length-set
 use Rattle.list_laws.proofs.Entries.{number_itself, same_number}
 use Rattle.il_core.proofs.Found.{all_at}
 use Rattle.clone_groups.specs.declared.groups.Group.{Group}
-use Rattle.plan_driver.specs.declared.moves.CallerMoves.{CallerMoves}
+use Rattle.plan_pools.specs.declared.moves.CallerMoves.{CallerMoves}
 use Rattle.group_moves.specs.Gathering.{IsTable, all_moves, moves_to}
 
 -- a member more

@@ -16,9 +16,9 @@ use Rattle.clone_groups.specs.Moves.{moves_of}
 use Rattle.clone_groups.specs.declared.groups.Group.{Group}
 use Rattle.plan_laws.specs.GroupLaws.{clone_of_member, has_member}
 use Rattle.plan_laws.specs.Groups.{Member, Taken}
-use Rattle.plan_driver.specs.MoveLaws.{AreMovesOf}
-use Rattle.plan_driver.specs.Retargeting.{AreMoves, moves_for}
-use Rattle.plan_driver.specs.declared.moves.CallerMoves.{CallerMoves}
+use Rattle.plan_pools.specs.MoveLaws.{AreMovesOf}
+use Rattle.plan_pools.specs.Retargeting.{AreMoves, moves_for}
+use Rattle.plan_pools.specs.declared.moves.CallerMoves.{CallerMoves}
 use Rattle.group_moves.specs.Gathering.{IsBelow, IsTable, all_moves, has_moves, moves_to}
 use Rattle.group_moves.proofs.Finding.{all_found, found, high_none, rising}
 
@@ -101,6 +101,18 @@ module _ (n : ℕ) (gs : List Group) (t : List CallerMoves) (below : AllByRecurs
 
   pub told_pids : AreMoves (filter has_moves t)
   told_pids = all_found (λ q. all_moves q gs) (λ ms. AllByRecursion (λ x. x.1 < max_pids) ms) t 0 from (λ q. all_to_pids n q gs below)
+
+  pub told_some : AllByRecursion (λ m. has_moves m ≡ true) (filter has_moves t)
+  told_some = passing t
+    where
+      passing : (ms : List CallerMoves) → AllByRecursion (λ m. has_moves m ≡ true) (filter has_moves ms)
+      passing [] = tt
+      passing (m ∷ ms) = by (has_moves m) refl (passing ms)
+        where
+          by : (b : Bool) → has_moves m ≡ b → AllByRecursion (λ m. has_moves m ≡ true) (filter has_moves ms)
+              → AllByRecursion (λ m. has_moves m ≡ true) (if b then m ∷ filter has_moves ms else filter has_moves ms)
+          by true e rest = (e, rest)
+          by false e rest = rest
 
   moves_are : (q : ℕ) → moves_for (filter has_moves t) q ≡ moves_of (all_moves q gs)
   moves_are q =

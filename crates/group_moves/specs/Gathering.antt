@@ -3,7 +3,7 @@ use Rattle.std.specs.Prelude.{◌≡◌, ◌<◌, ◌++◌, ℕ, Bool, true, fal
 use Rattle.std.specs.List.{AllByRecursion}
 use Rattle.il_core.specs.Limits.{max_pids}
 use Rattle.clone_groups.specs.declared.groups.Group.{Group}
-use Rattle.plan_driver.specs.declared.moves.CallerMoves.{CallerMoves}
+use Rattle.plan_pools.specs.declared.moves.CallerMoves.{CallerMoves}
 
 -- the moves of the caller q to a clone, among members of its group
 abbrev pub moves_to : ℕ → ℕ → List (ℕ × ℕ) → List (ℕ × ℕ)

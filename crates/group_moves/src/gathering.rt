@@ -1,17 +1,17 @@
 //! The moves of accepted groups, by caller.
-ghost use Rattle.std.specs.Prelude.{◌≡◌, ◌+◌, ◌<◌, ◌∷◌, ◌++◌, [], ℕ, List, filter, length, map, IfOk, OnOk};
+ghost use Rattle.std.specs.Prelude.{◌≡◌, ◌+◌, ◌<◌, ◌∷◌, ◌++◌, [], ℕ, true, List, filter, length, map, IfOk, OnOk};
 ghost use Rattle.std.specs.List.{AllByRecursion};
 ghost use Rattle.clone_groups.specs.Grouping.{accepted};
 ghost use Rattle.group_moves.specs.Gathering.{IsBelow, IsTable, all_moves, has_moves, moves_to};
 ghost use Rattle.il_core.specs.Limits.{max_pids};
 ghost use Rattle.il_core.specs.Shapes.{IsRising};
-ghost use Rattle.plan_driver.specs.MoveLaws.{AreMovesOf};
-ghost use Rattle.plan_driver.specs.Retargeting.{AreMoves};
+ghost use Rattle.plan_pools.specs.MoveLaws.{AreMovesOf};
+ghost use Rattle.plan_pools.specs.Retargeting.{AreMoves};
 ghost use Rattle.plan_laws.specs.Groups.{Taken};
 
 use clone_groups::Group;
 use hlo_num::Seq;
-use plan_driver::CallerMoves;
+use plan_pools::CallerMoves;
 use std::alloc::{AllocError, Global};
 
 /// The moves of accepted groups by rising caller, each of which is below a bound: each member's site goes to its group's clone.
@@ -26,6 +26,7 @@ pub fn caller_moves(
     ensures moves { (ts : List Taken) → groups.now ≡ map accepted ts → IfOk result (λ v. AreMovesOf ts v.items) }
     ensures rising { IfOk result (λ v. IsRising (λ m. m.caller) v.items) }
     ensures pids { IfOk result (λ v. AreMoves v.items) }
+    ensures some { IfOk result (λ v. AllByRecursion (λ m. has_moves m ≡ true) v.items) }
 {
     let mut table = empty_table(alloc, bound)?;
     note_all(table.as_mut_slice(), groups)?;
