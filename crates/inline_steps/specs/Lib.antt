@@ -1,0 +1,9 @@
+pub mod Linking
+pub mod Steps
+pub use Rattle.il_core.specs.Valid
+pub use Rattle.naim_loader.specs.Paged
+pub use Rattle.one_owner.specs.Alone
+pub use Rattle.plan_laws.specs.Summary
+pub use Rattle.plan_pools.specs.Contents
+pub use Rattle.plan_pools.specs.Planning
+pub use Rattle.plan_pools.specs.Printing
