@@ -1,0 +1,5 @@
+pub mod Clones
+pub mod Halted
+pub mod Left
+pub mod Room
+pub mod Trails
