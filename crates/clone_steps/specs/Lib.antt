@@ -1,0 +1,9 @@
+pub mod Sending
+pub use Rattle.clone_groups.specs.Grouping
+pub use Rattle.clone_pools.specs.States
+pub use Rattle.il_core.specs.Shapes
+pub use Rattle.one_owner.specs.Alone
+pub use Rattle.plan_pools.specs.Cloning
+pub use Rattle.plan_pools.specs.Contents
+pub use Rattle.plan_pools.specs.Planning
+pub use Rattle.plan_pools.specs.Retargeting
