@@ -1,0 +1,4 @@
+pub mod Adding
+pub mod Mains
+pub mod PassesMade
+pub mod Worthy
