@@ -1,0 +1,10 @@
+pub mod Optimising
+pub mod Passing
+pub mod Running
+pub mod Starting
+pub use Rattle.clone_pools.specs.States
+pub use Rattle.one_owner.specs.Alone
+pub use Rattle.pass_laws.specs.Worth
+pub use Rattle.plan_laws.specs.Plan
+pub use Rattle.plan_pools.specs.Contents
+pub use Rattle.plan_pools.specs.Planning
