@@ -5,7 +5,7 @@ use Rattle.std.specs.Str.Parse.{AllDigits, digits_value}
 use Rattle.std.proofs.lemmas.Fmt.{digits_value-decimal}
 use Rattle.std.proofs.lemmas.Str.Parse.{IsNumeralModel, numerals_by_value, tells_digits}
 use Rattle.clap.specs.Walk.{Row, Text, all_of, first_of}
-use Rattle.hlo_words.specs.Settings.{AreFiles, HasLimit, HasPasses, HasTurns, is_set, IsCheckSettings, IsNumberIn, IsOptSettings, IsRunIlSettings}
+use Rattle.hlo_words.specs.Settings.{AreFiles, HasBudget, HasLimit, HasPasses, HasTurns, is_set, IsCheckSettings, IsNumberIn, IsOptSettings, IsRunIlSettings}
 use Rattle.hlo_words.specs.Settings.{IsRunSettings, IsSettingsOf, IsTrainSettings, IsValue}
 use Rattle.hlo_words.specs.declared.settings.CheckSettings.{CheckSettings}
 use Rattle.hlo_words.specs.declared.settings.OptSettings.{OptSettings}
@@ -34,6 +34,9 @@ same_turns rows m n a b = same_value 1000000000 0 1000000000000 (first_of (codes
 same_limit : (rows : List Row) (m n : ℕ) → HasLimit rows m → HasLimit rows n → m ≡ n
 same_limit rows m n a b = same_value 67108864 1 1073741824 (first_of (codes "limit") rows) m n (lit< tt) a b
 
+same_budget : (rows : List Row) (m n : ℕ) → HasBudget rows m → HasBudget rows n → m ≡ n
+same_budget rows m n a b = same_value 100 0 1000 (first_of (codes "budget") rows) m n (lit< tt) a b
+
 same_passes : (rows : List Row) (m n : ℕ) → HasPasses rows m → HasPasses rows n → m ≡ n
 same_passes rows m n a b = same_value 4 1 8 (first_of (codes "passes") rows) m n (lit< tt) a b
 
@@ -44,11 +47,12 @@ pub same_opt : (words : List Text) (s t : OptSettings) → IsOptSettings words s
 same_opt words s t a b =
     let rows = a.read.found ∙ sym b.read.found in
     let limit : s.limit ≡ t.limit = same_limit b.rows _ _ (subst (λ r. HasLimit r s.limit) rows a.limit) b.limit in
+    let budget : s.budget ≡ t.budget = same_budget b.rows _ _ (subst (λ r. HasBudget r s.budget) rows a.budget) b.budget in
     let passes : s.passes ≡ t.passes = same_passes b.rows _ _ (subst (λ r. HasPasses r s.passes) rows a.passes) b.passes in
     let stats : s.stats ≡ t.stats = sym a.stats ∙ ap (λ r. is_set (first_of (codes "stats") r)) rows ∙ b.stats in
     let profile : s.profile ≡ t.profile = sym a.profile ∙ ap (first_of (codes "profile")) rows ∙ b.profile in
     let files : s.files ≡ t.files = same_files b.rows _ _ (subst (λ r. AreFiles r s.files) rows a.files) b.files in
-    λ i. record { limit = limit i; passes = passes i; profile = profile i; stats = stats i; files = files i }
+    λ i. record { limit = limit i; budget = budget i; passes = passes i; profile = profile i; stats = stats i; files = files i }
 
 pub same_check : (words : List Text) (s t : CheckSettings) → IsCheckSettings words s → IsCheckSettings words t → s ≡ t
 same_check words s t a b =

@@ -17,6 +17,10 @@ profile_rule = record (new_rule (codes "profile")) { long = Some (codes "profile
 abbrev pub limit_rule : Rule
 limit_rule = record (new_rule (codes "limit")) { long = Some (codes "limit"); action = Some Set }
 
+-- `--budget N`
+abbrev pub budget_rule : Rule
+budget_rule = record (new_rule (codes "budget")) { long = Some (codes "budget"); action = Some Set }
+
 -- `--passes N`
 abbrev pub passes_rule : Rule
 passes_rule = record (new_rule (codes "passes")) { long = Some (codes "passes"); action = Some Set }
@@ -33,15 +37,15 @@ files_rule = record (new_rule (codes "files")) { action = Some Append }
 abbrev pub files_app : Text → App
 files_app name = with_rule (new_app name) files_rule
 
--- `opt` with a limit and a number of passes, with a profile and a flag for the report behind them, and with files
+-- `opt` with a limit and a budget, with a number of passes and a profile behind them, and with a flag for the report and files
 abbrev pub numbers_app : App
-numbers_app = with_rule (with_rule (new_app (codes "opt")) limit_rule) passes_rule
+numbers_app = with_rule (with_rule (new_app (codes "opt")) limit_rule) budget_rule
 
 abbrev pub options_app : App
-options_app = with_rule (with_rule numbers_app profile_rule) stats_rule
+options_app = with_rule (with_rule numbers_app passes_rule) profile_rule
 
 abbrev pub opt_app : App
-opt_app = with_rule options_app files_rule
+opt_app = with_rule (with_rule options_app stats_rule) files_rule
 
 -- a command with a number of turns, and files
 abbrev pub turns_app : Text → App

@@ -34,6 +34,10 @@ HasTurns rows n = IsValue 1000000000 0 1000000000000 (first_of (codes "turns") r
 abbrev pub HasLimit : List Row → ℕ → Type 0
 HasLimit rows n = IsValue 67108864 1 1073741824 (first_of (codes "limit") rows) n
 
+-- the budget in percent: 0 to 1000, and 100 where it isn't given
+abbrev pub HasBudget : List Row → ℕ → Type 0
+HasBudget rows n = IsValue 100 0 1000 (first_of (codes "budget") rows) n
+
 -- the passes: 1 to 8, and 4 where they aren't given
 abbrev pub HasPasses : List Row → ℕ → Type 0
 HasPasses rows n = IsValue 4 1 8 (first_of (codes "passes") rows) n
@@ -54,6 +58,7 @@ pub record IsOptSettings (words : List Text) (s : OptSettings) : Type 0 where
   pub rows : List Row
   pub read : HasRead opt_app words rows
   pub limit : HasLimit rows s.limit
+  pub budget : HasBudget rows s.budget
   pub passes : HasPasses rows s.passes
   pub profile : first_of (codes "profile") rows ≡ s.profile
   pub stats : is_set (first_of (codes "stats") rows) ≡ s.stats

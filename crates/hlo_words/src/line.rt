@@ -63,38 +63,41 @@ fn files_line<'a>(alloc: Global, name: &'a str) -> Result<Command<'a>, AllocErro
     Command::new(alloc, name).arg(files)
 }
 
-/// `--limit N --passes N`
+/// `--limit N --budget N`
 fn opt_numbers<'a>(alloc: Global) -> Result<Command<'a>, AllocError>
     ensures { IfOk result (λ c. app_of c ≡ numbers_app) }
 {
     let limit = Arg::new(alloc, "limit")
         .long("limit")
         .action(ArgAction::Set);
-    let passes = Arg::new(alloc, "passes")
-        .long("passes")
+    let budget = Arg::new(alloc, "budget")
+        .long("budget")
         .action(ArgAction::Set);
-    Command::new(alloc, "opt").arg(limit)?.arg(passes)
+    Command::new(alloc, "opt").arg(limit)?.arg(budget)
 }
 
-/// `--limit N --passes N --profile FILE --stats`
+/// `--limit N --budget N --passes N --profile FILE`
 fn opt_options<'a>(alloc: Global) -> Result<Command<'a>, AllocError>
     ensures { IfOk result (λ c. app_of c ≡ options_app) }
 {
+    let passes = Arg::new(alloc, "passes")
+        .long("passes")
+        .action(ArgAction::Set);
     let profile = Arg::new(alloc, "profile")
         .long("profile")
         .action(ArgAction::Set);
-    let stats = Arg::new(alloc, "stats")
-        .long("stats")
-        .action(ArgAction::SetTrue);
-    opt_numbers(alloc)?.arg(profile)?.arg(stats)
+    opt_numbers(alloc)?.arg(passes)?.arg(profile)
 }
 
-/// `--limit N --passes N --profile FILE --stats FILE...`
+/// `--limit N --budget N --passes N --profile FILE --stats FILE...`
 fn opt_line<'a>(alloc: Global) -> Result<Command<'a>, AllocError>
     ensures { IfOk result (λ c. app_of c ≡ opt_app) }
 {
+    let stats = Arg::new(alloc, "stats")
+        .long("stats")
+        .action(ArgAction::SetTrue);
     let files = Arg::new(alloc, "files").action(ArgAction::Append);
-    opt_options(alloc)?.arg(files)
+    opt_options(alloc)?.arg(stats)?.arg(files)
 }
 
 /// `--turns N FILE...`

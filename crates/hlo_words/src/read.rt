@@ -2,7 +2,7 @@
 ghost use Rattle.std.specs.Prelude.{◌≡◌, ℕ, List, [], ◌∷◌, IfOk, IfSome, IfNone, codes, map, string_bytes};
 ghost use Rattle.clap.specs.Matches.{found_of};
 ghost use Rattle.clap.specs.Walk.{all_of, first_of, rows_of};
-ghost use Rattle.hlo_words.specs.Settings.{AreFiles, HasLimit, HasPasses, HasTurns, is_set, IsCheckSettings, IsOptSettings, IsRunIlSettings};
+ghost use Rattle.hlo_words.specs.Settings.{AreFiles, HasBudget, HasLimit, HasPasses, HasTurns, is_set, IsCheckSettings, IsOptSettings, IsRunIlSettings};
 ghost use Rattle.hlo_words.specs.Settings.{IsRunSettings, IsTrainSettings, AreRunSettings};
 ghost use Rattle.hlo_words.specs.declared.settings.CheckSettings.{CheckSettings};
 ghost use Rattle.hlo_words.specs.declared.settings.OptSettings.{OptSettings};
@@ -32,14 +32,21 @@ const DEFAULT_LIMIT: u64 = 1 << 26;
 /// The greatest limit in bytes, 1 GiB.
 const MAX_LIMIT: u64 = 1 << 30;
 
+/// By how many percent the plan may make the program dearer where the words don't say.
+const DEFAULT_BUDGET: u32 = 100;
+
+/// The greatest budget in percent.
+const MAX_BUDGET: u64 = 1000;
+
 /// How many passes the plan makes where the words don't say.
 const DEFAULT_PASSES: u32 = 4;
 
 /// The greatest number of passes.
 const MAX_PASSES: u64 = 8;
 
-/// The settings of `opt --limit N --passes N --profile FILE --stats FILE...`. The limit is from 1 to 1073741824
-/// bytes, and 67108864 where it isn't given; the passes are from 1 to 8, and 4 where they aren't given.
+/// The settings of `opt --limit N --budget N --passes N --profile FILE --stats FILE...`. The limit is from 1 to
+/// 1073741824 bytes, and 67108864 where it isn't given; the budget is from 0 to 1000 percent, and 100 where it
+/// isn't given; the passes are from 1 to 8, and 4 where they aren't given.
 ///
 /// The words are all those of the program, the command's name first; that one isn't looked at. They are read
 /// as clap reads a command with long options whose files stand last: a word behind `--` is a file, an option
@@ -53,6 +60,9 @@ pub fn read_opt(alloc: Global, words: &[String]) -> Result<OptSettings, WordsFau
     let Some(limit) = limit_of(&matches) else {
         return Err(WordsFault::Usage);
     };
+    let Some(budget) = budget_of(&matches) else {
+        return Err(WordsFault::Usage);
+    };
     let Some(passes) = passes_of(&matches) else {
         return Err(WordsFault::Usage);
     };
@@ -61,6 +71,7 @@ pub fn read_opt(alloc: Global, words: &[String]) -> Result<OptSettings, WordsFau
     let files = files_of(alloc, &matches)?;
     Ok(OptSettings {
         limit,
+        budget,
         passes,
         profile,
         stats,
@@ -142,6 +153,18 @@ fn limit_of(matches: &ArgMatches<'_>) -> Option<u64>
         Some(text) => number_in(text, 1, MAX_LIMIT),
         None => Some(DEFAULT_LIMIT),
     }
+}
+
+/// The budget in percent.
+fn budget_of(matches: &ArgMatches<'_>) -> Option<u32>
+    ensures found { IfSome result (HasBudget (rows_of (found_of matches.now))) }
+    ensures none { IfNone result ((n : ℕ) → HasBudget (rows_of (found_of matches.now)) n → ⊥) }
+{
+    let Some(text) = matches.get_str("budget") else {
+        return Some(DEFAULT_BUDGET);
+    };
+    let budget = number_in(text, 0, MAX_BUDGET)?;
+    Some(budget as u32)
 }
 
 /// The number of passes.

@@ -9,6 +9,8 @@ use thiserror::Error;
 pub struct OptSettings {
     /// How many bytes of routines may lie in memory that no worker holds.
     pub limit: u64,
+    /// By how many percent the plan may make the program dearer.
+    pub budget: u32,
     /// How many passes the plan makes.
     pub passes: u32,
     /// The profile, where the words name one.
