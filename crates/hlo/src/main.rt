@@ -16,9 +16,9 @@ use std::{env, io};
 use stream::Stream;
 
 const HELP: &str = "\
-usage: hlo [--repo PATH] opt [--limit N] [--passes N] [--profile FILE] [--stats] FILE...
-                                    prints the IL of the program that the C modules in
-                                    the FILEs make
+usage: hlo [--repo PATH] opt [--limit N] [--budget N] [--passes N] [--profile FILE]
+           [--stats] FILE...        prints the IL of the program that the C modules in
+                                    the FILEs make, optimised
        hlo check FILE...            checks that they make a program, and prints nothing
        hlo run [--turns N] FILE...  runs that program on standard input and output
        hlo train [--turns N] FILE...
@@ -32,6 +32,8 @@ options: --turns N  at most N turns, 0 to 1000000000000 (1000000000 if not given
          --limit N  at most N bytes of routines lie in memory beside the one that is
                     worked at, 1 to 1073741824 (67108864 if not given); the others lie
                     on a scratch file
+         --budget N  clones and inlined calls may make the program at most N percent
+                    dearer, 0 to 1000 (100 if not given), in equal parts, one a pass
          --passes N  passes over the program, 1 to 8 (4 if not given)
          --repo PATH  the scratch file, which is emptied (hlo.repo if not given)
          --stats    tells on standard error how much was kept and moved, and the costs

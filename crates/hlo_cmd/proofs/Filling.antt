@@ -16,7 +16,7 @@ use Rattle.il_core.specs.Size.{cost, size}
 use Rattle.naim_loader.specs.Paged.{Paged, fresh, kept_at}
 use Rattle.naim_loader.specs.Rows.{Kept}
 use Rattle.one_owner.specs.Answers.{Places}
-use Rattle.plan_driver.specs.Contents.{routine_in}
+use Rattle.plan_pools.specs.Contents.{routine_in}
 use Rattle.hlo_cmd.specs.Pools.{HaveOwnPids, IsFilled, IsReady, inserted, listed}
 
 -- a routine behind others is found by its number, if none before it has that

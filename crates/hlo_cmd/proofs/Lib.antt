@@ -6,6 +6,7 @@ pub mod Fronts
 pub mod Lines
 pub mod ModuleRuns
 pub mod ModuleTrains
+pub mod Objects
 pub mod OneByOne
 pub mod Opts
 pub mod Planned

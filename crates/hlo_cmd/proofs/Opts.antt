@@ -23,7 +23,7 @@ use Rattle.std.specs.Borrow.{Bor}
 use Rattle.sym_tables.specs.Table.{Table}
 use Rattle.hlo_cmd.specs.Messages.{memory_line, profile_refusal, refusal_line, refusal_status, unread_line, words_refusal}
 use Rattle.hlo_cmd.specs.Modules.{StopsRefused, StopsUnread}
-use Rattle.hlo_cmd.specs.Opt.{AsksNothing, AsksOpt, HasBadProfile, HasFront, HasGoodProfile, IsOptStatus, IsQuiet, IsQuietProfile, OfAskedOpt}
+use Rattle.hlo_cmd.specs.Opt.{AsksNothing, AsksOpt, HasBadProfile, HasFront, HasGoodProfile, IsInRange, IsOptStatus, IsQuiet, IsQuietProfile, OfAskedOpt}
 use Rattle.hlo_cmd.specs.Opt.{OptPromise, Prints, PrintsFront, StopsDamaged, StopsTooSmall, report_line}
 use Rattle.hlo_cmd.specs.Paging.{HasPrinted, IsAtPrinting, IsLate, IsOptCause, IsUnreadRefusal}
 use Rattle.hlo_cmd.specs.Profiles.{HasCounts, HoldsBadLine, HoldsProfile, IsBadLine, IsProfileCause, IsProfileCauseOf, IsProfileText}
@@ -50,13 +50,20 @@ limit_in : (o : Option (List ℕ)) (n : ℕ) → IsValue 67108864 1 1073741824 o
 limit_in None n e = omega (arith, e)
 limit_in (Some text) n h = let most = h.most in omega arith
 
--- there is at least one pass
-passes_in : (o : Option (List ℕ)) (n : ℕ) → IsValue 4 1 8 o n → 0 < n
-passes_in None n e = omega (arith, e)
-passes_in (Some text) n h = let least = h.least in omega arith
+-- there is at least one pass, and there are at most eight
+passes_in : (o : Option (List ℕ)) (n : ℕ) → IsValue 4 1 8 o n → (0 < n) × (n ≤ 8)
+passes_in None n e = (omega (arith, e), omega (arith, e))
+passes_in (Some text) n h = let least = h.least in let most = h.most in (omega arith, omega arith)
 
-pub passes_some : (words : List (List ℕ)) (s : OptSettings) → AsksOpt words s → 0 < s.passes
-passes_some words s asked = passes_in _ s.passes asked.settings.passes
+-- the budget is in its range
+budget_in : (o : Option (List ℕ)) (n : ℕ) → IsValue 100 0 1000 o n → n ≤ 1000
+budget_in None n e = omega (arith, e)
+budget_in (Some text) n h = let most = h.most in omega arith
+
+pub in_range : (words : List (List ℕ)) (s : OptSettings) → AsksOpt words s → IsInRange s
+in_range words s asked =
+    let passes = passes_in _ s.passes asked.settings.passes in
+    record { some = passes.0; passes = passes.1; budget = budget_in _ s.budget asked.settings.budget }
 
 pub limit_most : (words : List (List ℕ)) (s : OptSettings) → AsksOpt words s → s.limit ≤ 2 ^ 30
 limit_most words s asked = limit_in _ s.limit asked.settings.limit
@@ -131,6 +138,12 @@ module _ (words : List (List ℕ)) (tells : List ℕ → Told) (shelf shelf_now 
     refuses_profile = λ s name asked named bad calm. inr e;
     complete = λ s names asked reaches good_one formed links calm quiet writes whole. inr (inr e);
   }
+
+  -- memory ran out before anything was put out
+  pub opt_memory : status ≡ 10 → Said memory_line → Keeps before after
+      → OptPromise words tells shelf shelf_now before after out out_now good disk disk_now Said status None
+  unfolding Promise
+  opt_memory e said kept = by_memory e said (inl kept)
 
   pub opt_words : (syms : Table) (fault : WordsFault) → status ≡ refusal_status (words_refusal fault) → Said (refusal_line syms (words_refusal fault))
       → (fault ≡ words_fault.Usage → AsksNothing words) → Keeps before after
@@ -240,12 +253,6 @@ module _ (words : List (List ℕ)) (tells : List ℕ → Told) (shelf shelf_now 
         go (Some name) is h c = named_fault name file syms fault is h e said c kept
 
     module _ (counts : Counts) (counted : HasCounts tells s.profile counts) where
-      -- memory ran out behind the profile, before anything was put out
-      pub opt_memory : status ≡ 10 → Said memory_line → Keeps before after
-          → OptPromise words tells shelf shelf_now before after out out_now good disk disk_now Said status None
-      unfolding Promise
-      opt_memory e said kept = by_memory e said (inl kept)
-
       -- where the words ask for a profile whose file is told, and is none, there were no counts
       not_bad : (q : OptSettings) (other : List ℕ) → AsksOpt words q → q.profile ≡ Some other → HasBadProfile tells other → ⊥
       not_bad q other also named bad = go s.profile (sym (same_profile q also) ∙ named) counted
@@ -502,7 +509,7 @@ module _ (words : List (List ℕ)) (tells : List ℕ → Told) (shelf shelf_now 
             → OptPromise words tells shelf shelf_now before after out out_now good disk disk_now Said status (Some report)
         opt_printed report total after_plan e h said peak cost_before cost_after never =
             let before_is = cost_before ∙ h.total_is in
-            let less = h.planned.cheaper in
+            let less = h.planned.within_budget in
             let whole : Prints tells good before after Said report s counts = record {
               lowered = h.lowered;
               program = h.program;
@@ -512,7 +519,7 @@ module _ (words : List (List ℕ)) (tells : List ℕ → Told) (shelf shelf_now 
               peak = peak;
               cost_before = before_is;
               cost_after = λ g. cost_after ∙ h.after_is g;
-              no_more = λ g. let after_is = cost_after ∙ h.after_is g in rw (before_is, after_is) less;
+              within_budget = λ g. let after_is = cost_after ∙ h.after_is g in rw (before_is, after_is) less;
               said = said;
             } in
             let front : PrintsFront tells good before after s counts = record {

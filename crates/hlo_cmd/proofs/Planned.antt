@@ -1,9 +1,10 @@
 -- The plan of a program whose routines went to the pools of a loader.
-use Rattle.std.proofs.Common.{◌≡◌, ◌≤◌, ◌<◌, ◌^◌, ℕ, zero, suc, Bool, true, false, nat_eq, List, [], ◌∷◌, length, Some, None, refl, sym, ap, subst}
-use Rattle.std.proofs.Common.{arith, ◌∙◌, sum_by}
+use Rattle.std.proofs.Common.{◌≡◌, ◌≤◌, ◌<◌, ◌^◌, ◌*◌, ◌+◌, ℕ, Bool, true, false, nat_eq, List, [], ◌∷◌, length, Some, None, refl, sym, ap, subst}
+use Rattle.std.proofs.Common.{arith, le_trans, ◌∙◌, sum_by}
 use Rattle.std.specs.Prelude.{if◌then◌else◌}
 use Rattle.std.specs.List.{AllByRecursion}
 use Rattle.std.proofs.lemmas.List.Sums.{sum_by-cons}
+use Rattle.std.proofs.lemmas.Nat.{mul-le}
 use Rattle.std.proofs.lemmas.Option.{same_Some}
 use Rattle.il_core.specs.Object.{ObjectParts}
 use Rattle.il_core.specs.Program.{main_pid, routine_at}
@@ -19,23 +20,28 @@ use Rattle.naim_core.specs.declared.event.Failure.{Failure}
 use Rattle.naim_core.specs.declared.event.Failure.TheVariants as failure
 use Rattle.naim_loader.specs.Paged.{Paged, IsGood, IsTrusted}
 use Rattle.outside.specs.Told.{Told}
-use Rattle.plan_driver.specs.BudgetLaws.{FinalIsAsGood, IsAsGood, PlanAtZero}
-use Rattle.plan_driver.specs.Contents.{routine_pids}
-use Rattle.plan_driver.specs.Planning.{Holds, IsCost, IsMade, PlanCause}
-use Rattle.plan_driver.proofs.Programs.{program_pids}
+use Rattle.pass_laws.specs.Worth.{IsWorth, PlanIsWorth, spendable}
+use Rattle.plan_driver.specs.Optimising.{Optimises}
+use Rattle.plan_pools.specs.Contents.{routine_pids}
+use Rattle.plan_pools.specs.Planning.{Holds, IsCost, IsNeed, PlanCause}
+use Rattle.plan_pools.proofs.Programs.{program_pids}
 use Rattle.plan_laws.specs.Plan.{final, plan}
 use Rattle.profile.specs.Counts.{Counts}
 use Rattle.sym_tables.specs.Table.{Table}
 use Rattle.hlo_cmd.proofs.Costs.{own_rising, same_sum}
+use Rattle.hlo_cmd.proofs.Objects.{final_objects}
 use Rattle.hlo_cmd.proofs.Pooled.{all_found, found_in_pools, frame_cost}
 use Rattle.hlo_cmd.specs.Messages.{loader_refusal}
+use Rattle.hlo_cmd.specs.Opt.{IsInRange}
 use Rattle.hlo_cmd.specs.Paging.{HasPlanned, IsPlanningCause}
 use Rattle.hlo_cmd.specs.Pools.{IsReady, inserted}
 
--- the plan of budget 0 changes no object
-final_objects : PlanAtZero → (p : IlProgram) (n : ℕ) → (final p 0 n).objects ≡ p.objects
-final_objects law p zero = ap (λ (x : IlProgram). x.objects) (law p).first
-final_objects law p (suc n) = ap (λ (x : IlProgram). x.objects) ((law p).last n) ∙ final_objects law p n
+-- 64 bits tell a cost that is so many percent higher
+told_cost : (before after budget : ℕ) → before ≤ 2 ^ 44 → budget ≤ 1000 → 100 * after ≤ before * (100 + budget) → after < 2 ^ 64
+told_cost before after budget few range dearer =
+    let rate : 100 + budget ≤ 1100 = omega (arith, range) in
+    let most : 100 * after ≤ 2 ^ 44 * 1100 = le_trans dearer (mul-le before (100 + budget) (2 ^ 44) 1100 few rate) in
+    omega (arith, most)
 
 ones : (rs : List RoutineParts) → sum_by (λ (r : RoutineParts). 1) rs ≡ length rs
 ones [] = refl
@@ -76,8 +82,8 @@ module _ {D : Type 0} (reach : D → ℕ) (honest : D → Bool) (faults : D → 
   total_cost : total ≡ cost frame.program.routines
   total_cost = ready.total_is ∙ frame_cost l counts tells s.files rows os syms ready.filled frame
 
-  -- 64 bits can tell its cost
-  few : cost frame.program.routines < 2 ^ 64
+  -- its cost is small enough that 64 bits tell one that is eleven times as much
+  few : cost frame.program.routines ≤ 2 ^ 44
   few =
       let many : length frame.program.routines ≡ length (inserted l) =
       sym (ones frame.program.routines)
@@ -88,16 +94,17 @@ module _ {D : Type 0} (reach : D → ℕ) (honest : D → Bool) (faults : D → 
       omega (arith, many, most, bound, total_cost)
 
   -- the plan was made
-  pub has_planned : PlanAtZero → FinalIsAsGood → (new : Paged RoutineBody (Unit {0}) D) (left : List ShapeRow) (after_plan : ℕ)
-      → IsMade reach honest faults (λ p. plan p 0 s.passes) (λ p. final p 0 s.passes) rows main l new left
-      → ((p : IlProgram) → Holds reach honest faults l rows main p → IsCost after_plan (final p 0 s.passes))
+  pub has_planned : PlanIsWorth → IsInRange s → (new : Paged RoutineBody (Unit {0}) D) (left : List ShapeRow) (after_plan : ℕ)
+      → Optimises reach honest faults (λ p. plan p (spendable rows s.budget) s.passes) (λ p. final p (spendable rows s.budget) s.passes) rows main l new left
+      → ((p : IlProgram) → Holds reach honest faults l rows main p → IsCost after_plan (final p (spendable rows s.budget) s.passes))
       → HasPlanned tells (λ n. IsGood reach honest n l.first) s counts syms reach honest new left os total after_plan
-  has_planned law kept new left after_plan made costs =
+  has_planned worth range new left after_plan made costs =
       let p = frame.program in
-      let q = final p 0 s.passes in
-      let good : IsAsGood p q = kept p frame.is.valid s.passes in
-      let cheaper = good.cost_is in
-      let most = few in
+      let q = final p (spendable p.shapes s.budget) s.passes in
+      let good : IsWorth s.budget p q = worth p frame.is.valid s.budget s.passes in
+      let dearer = good.cost_is in
+      let held : IsGood reach honest s.limit l.first → Holds reach honest faults new left main q = λ g.
+      subst (λ rs. Holds reach honest faults new left main (final p (spendable rs s.budget) s.passes)) (sym frame.shapes) (made.program p (holds g)).holds in
       record {
         lowered = p;
         program = q;
@@ -106,23 +113,26 @@ module _ {D : Type 0} (reach : D → ℕ) (honest : D → Bool) (faults : D → 
           is = refl;
           valid = good.valid;
           runs = λ input turns. good.run input turns ∙ frame.is.runs input turns;
-          cheaper = cheaper;
+          within_budget = dearer;
         };
-        trusted = λ g. (made.program p (holds g)).holds.trusted;
+        trusted = λ g. (held g).trusted;
         held = λ g.
-            let at = (made.program p (holds g)).holds in
+            let at = held g in
             record {
               shapes = at.shapes;
-              objects = final_objects law p s.passes ∙ frame.objects;
+              objects = final_objects p (spendable p.shapes s.budget) s.passes ∙ frame.objects;
               pids = program_pids q good.valid ∙ ap routine_pids at.shapes;
               routines = found_in_pools new q.routines q.routines at.contents.by (all_found q.routines good.valid.routines);
             };
         total_is = total_cost;
-        after_is = λ g. costs p (holds g) (omega (arith, cheaper, most));
+        after_is = λ g.
+            subst (λ rs. IsCost after_plan (final p (spendable rs s.budget) s.passes)) (sym frame.shapes) (costs p (holds g))
+            (told_cost (cost p.routines) (cost q.routines) s.budget few range.budget dearer);
       }
 
   -- it wasn't
-  pub planning_told : (f : Failure) (disk disk_now : ℕ) → PlanCause reach honest faults (λ p. plan p 0 s.passes) rows main l disk disk_now f
+  pub planning_told : (f : Failure) (disk disk_now : ℕ)
+      → PlanCause reach honest faults (λ p. plan p (spendable rows s.budget) s.passes) rows main l disk disk_now f
       → IsPlanningCause tells (λ n. IsGood reach honest n l.first) s counts syms disk disk_now (loader_refusal f)
   planning_told failure.Repository disk disk_now cause = cause
   planning_told (failure.Damaged place kept found) disk disk_now cause = (cause.0, λ g. cause.2 (trusted g))
@@ -135,7 +145,8 @@ module _ {D : Type 0} (reach : D → ℕ) (honest : D → Bool) (faults : D → 
     fit = all_as (λ r. length (compact r) ≤ s.limit) frame.program.routines (inserted l) frame.program.routines
         (subst (λ n. AllByRecursion (λ r. length (compact r) ≤ n) (inserted l)) limit ready.short) frame.routines
         (all_found frame.program.routines frame.is.valid.routines);
-    routine = λ g. cause.2 frame.program (holds g);
+    routine = λ g.
+        subst (λ rs. IsNeed (plan frame.program (spendable rs s.budget) s.passes) q need) (sym frame.shapes) (cause.2 frame.program (holds g));
     long = subst (λ n. n < need) (cause.0 ∙ limit) cause.1;
     limit_is = cause.0 ∙ limit;
   }

@@ -14,8 +14,8 @@ use Rattle.c_module.specs.Frames.{IsFrameOf}
 use Rattle.naim_loader.specs.Paged.{Paged, kept_at}
 use Rattle.naim_loader.specs.Rows.{Kept}
 use Rattle.outside.specs.Told.{Told}
-use Rattle.plan_driver.specs.Contents.{HavePools, HoldsProgram, routine_in, routine_pids}
-use Rattle.plan_driver.proofs.Programs.{program_pids}
+use Rattle.plan_pools.specs.Contents.{HavePools, HoldsProgram, routine_in, routine_pids}
+use Rattle.plan_pools.proofs.Programs.{program_pids}
 use Rattle.profile.specs.Counts.{Counts}
 use Rattle.sym_tables.specs.Table.{Table}
 use Rattle.hlo_cmd.proofs.Costs.{own_rising, same_sum}

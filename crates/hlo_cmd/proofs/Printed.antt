@@ -11,10 +11,10 @@ use Rattle.naim_loader.specs.Paged.{Paged, IsTrusted}
 use Rattle.outside.specs.Told.{Told}
 use Rattle.naim_core.specs.declared.event.Failure.{Failure}
 use Rattle.outside.specs.Faults.{Rose}
-use Rattle.plan_driver.specs.Contents.{HoldsProgram}
-use Rattle.plan_driver.specs.Printing.{Leaves, OutputCause, ReadCause, StopsReading}
-use Rattle.plan_driver.specs.declared.printing.PrintFault.{PrintFault}
-use Rattle.plan_driver.specs.declared.printing.PrintFault.TheVariants as fault
+use Rattle.plan_pools.specs.Contents.{HoldsProgram}
+use Rattle.plan_pools.specs.Printing.{Leaves, OutputCause, ReadCause, StopsReading}
+use Rattle.plan_pools.specs.declared.printing.PrintFault.{PrintFault}
+use Rattle.plan_pools.specs.declared.printing.PrintFault.TheVariants as fault
 use Rattle.profile.specs.Counts.{Counts}
 use Rattle.sym_tables.specs.Table.{Table}
 use Rattle.hlo_cmd.specs.Opt.{PrintsFront}

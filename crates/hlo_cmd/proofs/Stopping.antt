@@ -27,7 +27,7 @@ use Rattle.naim_loader.specs.Paged.{Paged, IsTrusted}
 use Rattle.one_owner.proofs.Frames.{rose_since}
 use Rattle.one_owner.specs.Causes.{PlaceCause}
 use Rattle.outside.specs.Told.{Told}
-use Rattle.plan_driver.specs.Printing.{ReadCause}
+use Rattle.plan_pools.specs.Printing.{ReadCause}
 use Rattle.profile.specs.Counts.{Counts}
 use Rattle.sym_tables.specs.Table.{Table}
 use Rattle.hlo_cmd.specs.Messages.{loader_refusal, program_refusal}

@@ -23,6 +23,6 @@ pub use Rattle.naim_loader.specs.Paged
 pub use Rattle.one_owner.specs.Alone
 pub use Rattle.outside.specs.Faults
 pub use Rattle.outside.specs.Taken
-pub use Rattle.plan_driver.specs.Contents
+pub use Rattle.plan_pools.specs.Contents
 pub use Rattle.profile.specs.Texts
 pub use Rattle.sym_tables.specs.Table

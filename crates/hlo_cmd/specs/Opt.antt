@@ -1,5 +1,6 @@
 -- What `opt` promises.
-use Rattle.std.specs.Prelude.{◌≡◌, ◌≢◌, ◌≤◌, ◌<◌, ℕ, suc, ◌⊎◌, ◌++◌, Bool, List, [], ◌∷◌, Option, Some, None, length, take, if◌then◌else◌, ⊤}
+use Rattle.std.specs.Prelude.{◌≡◌, ◌≢◌, ◌≤◌, ◌<◌, ◌+◌, ◌*◌, ℕ, suc, ◌⊎◌, ◌++◌, Bool, List, [], ◌∷◌, Option, Some, None, length, take}
+use Rattle.std.specs.Prelude.{if◌then◌else◌, ⊤}
 use Rattle.std.specs.Io.KnownBytes.{Appends, Keeps}
 use Rattle.std.specs.List.{AllByRecursion}
 use Rattle.c_lower.specs.Lowering.{routine_of}
@@ -24,8 +25,9 @@ use Rattle.il_core.specs.Valid.{IsProgram}
 use Rattle.linker.specs.Linking.{refusal}
 use Rattle.outside.specs.Faults.{Rose}
 use Rattle.outside.specs.Told.{Told, Holds}
-use Rattle.plan_driver.specs.Planning.{IsNeed}
+use Rattle.pass_laws.specs.Worth.{spendable}
 use Rattle.plan_laws.specs.Plan.{final, plan}
+use Rattle.plan_pools.specs.Planning.{IsNeed}
 use Rattle.profile.specs.Counts.{Counts, Profiled}
 use Rattle.sym_tables.specs.Table.{Table}
 use Rattle.hlo_cmd.specs.Messages.{damaged_line, memory_line, profile_line, repository_line, small_line, stats_line, unfit_line, unread_line}
@@ -41,6 +43,12 @@ pub record AsksOpt (words : List (List ℕ)) (s : OptSettings) : Type 0 where
   pub command : asked_command words ≡ command.Opt
   pub settings : IsOptSettings words s
 
+-- there is a pass, and the passes and the budget are within their bounds
+pub record IsInRange (s : OptSettings) : Type 0 where
+  pub some : 0 < s.passes
+  pub passes : s.passes ≤ 8
+  pub budget : s.budget ≤ 1000
+
 -- they say something, of which it is so with the counts of the profile that they name
 pub record OfAskedOpt (words : List (List ℕ)) (tells : List ℕ → Told) (Holds : OptSettings → Counts → Type 0) : Type 0 where
   pub settings : OptSettings
@@ -55,18 +63,19 @@ pub record OfAskedOpt (words : List (List ℕ)) (tells : List ℕ → Told) (Hol
 abbrev pub report_line : Bool → Report → List ℕ
 report_line stats r = if stats then stats_line r else []
 
--- The lowered program of the files, and the last one of its plan, where nothing may be spent: that is valid, prints, traps and
--- ends as the linked modules do, for every input and every number of turns, and costs no more. It is the same for every limit.
+-- The lowered program of the files, and the last one of its plan within the budget: that is valid, prints, traps and ends as the
+-- linked modules do, for every input and every number of turns, and costs at most so many percent more. It is the same for every
+-- limit. No name of C has a `$`; where a name had one nothing would be spent, since it might be the name of a clone.
 pub record IsPlanned (tells : List ℕ → Told) (s : OptSettings) (counts : Counts) (lowered planned : IlProgram) (syms : Table) : Type 0 where
   pub from : IsProgramOf counts tells s.files lowered syms
-  pub is : planned ≡ final lowered 0 s.passes
+  pub is : planned ≡ final lowered (spendable lowered.shapes s.budget) s.passes
   pub valid : IsProgram planned
   pub runs : (input : List ℕ) (turns : ℕ) → il_run planned input turns ≡ c90_run from.ts syms input turns
-  pub cheaper : cost planned.routines ≤ cost lowered.routines
+  pub within_budget : 100 * cost planned.routines ≤ cost lowered.routines * (100 + s.budget)
 
 -- Over a good disk the text of the planned program of the files was put out; the bytes that nobody held stayed within the limit;
--- the costs are those of the lowered program and, over a good disk, of the planned one; and the report's line was told where the
--- words ask for it.
+-- the costs are those of the lowered program and, over a good disk, of the planned one, which is at most so many percent higher as
+-- the budget says; and the report's line was told where the words ask for it.
 pub record Prints (tells : List ℕ → Told) (good : ℕ → Type 0) (before after : Option (List ℕ)) (Said : List ℕ → Type 0) (report : Report) (s : OptSettings)
     (counts : Counts) : Type 0 where
   pub lowered : IlProgram
@@ -77,7 +86,7 @@ pub record Prints (tells : List ℕ → Told) (good : ℕ → Type 0) (before af
   pub peak : report.under_peak ≤ s.limit
   pub cost_before : report.cost_before ≡ cost lowered.routines
   pub cost_after : good s.limit → report.cost_after ≡ cost program.routines
-  pub no_more : good s.limit → report.cost_after ≤ report.cost_before
+  pub within_budget : good s.limit → 100 * report.cost_after ≤ report.cost_before * (100 + s.budget)
   pub said : Said (report_line s.stats report)
 
 -- over a good disk a front of that text was put out
@@ -126,7 +135,7 @@ pub record IsTooSmallToPlan (tells : List ℕ → Told) (good : ℕ → Type 0) 
   pub syms : Table
   pub from : IsProgramOf counts tells s.files lowered syms
   pub fit : AllByRecursion (λ r. length (compact r) ≤ s.limit) lowered.routines
-  pub routine : good s.limit → IsNeed (plan lowered 0 s.passes) pid need
+  pub routine : good s.limit → IsNeed (plan lowered (spendable lowered.shapes s.budget) s.passes) pid need
   pub long : s.limit < need
   pub limit_is : limit ≡ s.limit
 

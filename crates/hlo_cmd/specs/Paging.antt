@@ -13,7 +13,7 @@ use Rattle.il_core.specs.Text.{text}
 use Rattle.naim_loader.specs.Paged.{Paged, IsTrusted}
 use Rattle.outside.specs.Faults.{Rose}
 use Rattle.outside.specs.Told.{Told}
-use Rattle.plan_driver.specs.Contents.{HoldsProgram}
+use Rattle.plan_pools.specs.Contents.{HoldsProgram}
 use Rattle.profile.specs.Counts.{Counts}
 use Rattle.sym_tables.specs.Table.{Table}
 use Rattle.hlo_cmd.specs.Opt.{HasFront, IsPlanned, IsTooSmall, IsTooSmallToPlan, PrintsFront}

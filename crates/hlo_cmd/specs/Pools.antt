@@ -13,7 +13,7 @@ use Rattle.one_owner.specs.Alone.{IsResting}
 use Rattle.one_owner.specs.Causes.{PlaceCause}
 use Rattle.one_owner.specs.Going.{Stays, Stops}
 use Rattle.outside.specs.Told.{Told}
-use Rattle.plan_driver.specs.Contents.{routine_in}
+use Rattle.plan_pools.specs.Contents.{routine_in}
 use Rattle.profile.specs.Counts.{Counts}
 use Rattle.sym_tables.specs.Table.{Table}
 

@@ -1,11 +1,11 @@
 //! The command `opt`.
-ghost use Rattle.std.specs.Prelude.{◌≡◌, ◌≢◌, ◌↔◌, ◌<◌, ◌≤◌, ◌^◌, ℕ, List, [], IfOk, IfSome, IsSome, Some, Err, map, string_bytes};
+ghost use Rattle.std.specs.Prelude.{◌≡◌, ◌≢◌, ◌↔◌, ◌≤◌, ◌^◌, ℕ, List, [], IfOk, IfSome, IsSome, Some, Err, map, string_bytes};
 ghost use Rattle.naim_loader.specs.Paged.{IsGood};
 ghost use Rattle.outside.specs.Faults.{NoneFalls};
 ghost use Rattle.outside.specs.Told.{SameFiles};
 ghost use Rattle.hlo_cmd.specs.Messages.{Says};
 ghost use Rattle.profile.specs.Counts.{counts_of};
-ghost use Rattle.hlo_cmd.specs.Opt.{AsksNothing, AsksOpt, OptPromise, report_line};
+ghost use Rattle.hlo_cmd.specs.Opt.{AsksNothing, AsksOpt, IsInRange, OptPromise, report_line};
 ghost use Rattle.hlo_cmd.specs.Pools.{IsReady, inserted};
 ghost use Rattle.hlo_cmd.specs.Profiles.{HasCounts};
 ghost use Rattle.hlo_cmd.specs.Words.{asked_command};
@@ -27,23 +27,26 @@ use sym_tables::ProgramSyms;
 
 /// Prints the IL of the program that is planned of the program that modules make: `opt FILE...`, with one to 64 files, `--profile
 /// FILE` for the counts of its routines and calls, which are all 1 where no profile is named, `--passes N` for the passes of the
-/// plan, `--limit N` for the bytes of routines that may lie in memory at one time beside those that are worked at, and `--stats`
-/// for the report. In each pass all routines are simplified, and those that `main` doesn't reach go.
+/// plan, `--budget N` for the percent by which it may make the program dearer, `--limit N` for the bytes of routines that may lie
+/// in memory at one time beside those that are worked at, and `--stats` for the report. In each pass routines are cloned for the
+/// constants of their calls, and these calls go to the clones; all routines are simplified; calls are inlined; all routines are
+/// simplified again, and those that `main` doesn't reach go. The budget is spent in equal parts, one a pass.
 ///
 /// At status 0 the text of the planned program was put out: its head in one piece, each routine in one, and its last line.
 /// It is the same for every limit. That program is valid, prints, traps and ends as the linked modules do, for every input and
-/// every number of turns, and costs no more than the lowered one; the report has both costs. Otherwise one line says on `err`
-/// why: 2 `hlo: usage`, 3 `hlo: FILE:LINE: KIND`, `hlo: FILE: TooLong`, `hlo: NAME: TooLarge` or `hlo: link: ..`, 4 `hlo:
-/// profile: line N` (0 where it has more than 16 MiB), 5 `hlo: cannot read FILE`, 6 `hlo: cannot write`, 7 `hlo: repository
-/// failed`, 8 `hlo: repository damaged at P: kept H found H`, `hlo: repository unreadable at P` or `hlo: repository unfit:
-/// routine PID`, 9 `hlo: limit too small: routine PID needs N, limit N`, of a routine of the files or of the plan, 10 `hlo: out of
-/// memory`. Any first word but `opt` is 2. A failed write on `err` changes no status. The disk is the scratch disk, on which
-/// routines lie for which there is no room; it comes back, and what is said of the text and of the planned program's cost is
-/// said over a disk that is honest and reaches 131,072 times the limit.
+/// every number of turns, and costs at most so many percent more than the lowered one as the budget says; the report has both
+/// costs. Otherwise one line says on `err` why: 2 `hlo: usage`, 3 `hlo: FILE:LINE: KIND`, `hlo: FILE: TooLong`, `hlo: NAME:
+/// TooLarge` or `hlo: link: ..`, 4 `hlo: profile: line N` (0 where it has more than 16 MiB), 5 `hlo: cannot read FILE`, 6 `hlo:
+/// cannot write`, 7 `hlo: repository failed`, 8 `hlo: repository damaged at P: kept H found H`, `hlo: repository unreadable at
+/// P` or `hlo: repository unfit: routine PID`, 9 `hlo: limit too small: routine PID needs N, limit N`, of a routine of the
+/// files or of the plan, 10 `hlo: out of memory`. Any first word but `opt` is 2. A failed write on `err` changes no status. The
+/// disk is the scratch disk, on which routines lie for which there is no room; it comes back, and what is said of the text and
+/// of the planned program's cost is said over a disk that is honest and reaches 131,072 times the limit.
 ///
 /// It takes time linear in the files and the text, with the logarithm of the names for each line that names one, and for each
-/// pass time in proportion to the routines, three times, beside what bringing them back and making room takes; and memory for one
-/// file's tokens and trees at a time, beside the names, the limit, one routine that is worked at, and the calls.
+/// pass time in proportion to the routines, before and behind clones and inlined calls, with the logarithm of the calls for
+/// ranking them, beside what bringing them back and making room takes; and memory for one file's tokens and trees at a time,
+/// beside the names, the limit, one routine that is worked at with those that it takes in, and the calls.
 pub fn opt_command<S: Shelf, O: Sink, E: Sink, D: Disk + Drop + Send, G: Gate + Sync>(
     alloc: Global,
     words: &[String],
@@ -90,7 +93,7 @@ fn serve_settings<S: Shelf, O: Sink, E: Sink, D: Disk + Drop>(
     disk: D,
 ) -> OptAnswer<D>
     requires limit { settings.now.limit ≤ 2 ^ 30 }
-    requires passes { 0 < settings.now.passes }
+    requires range { IsInRange settings.now }
     ensures promise { (words : List (List ℕ)) → AsksOpt words settings.now
         → OptPromise words (S.tells shelf.old) (S.faults shelf.old) (S.faults shelf.new) (O.taken out.old) (O.taken out.new) (O.faults out.old)
         (O.faults out.new) (λ limit. IsGood D.reach D.honest limit disk) (D.faults disk) (D.faults result.disk)
@@ -130,7 +133,7 @@ fn serve_pools<S: Shelf, O: Sink, E: Sink, D: Disk + Drop>(
     err: &mut E,
 ) -> OptAnswer<D>
     requires limit { paging.loader.core.limit ≡ settings.now.limit }
-    requires passes { 0 < settings.now.passes }
+    requires range { IsInRange settings.now }
     requires ready { IsReady paging.loader paging.pids.items paging.cost }
     requires none { inserted paging.loader ≡ [] }
     ensures promise { (words : List (List ℕ)) (shelf_before : List ℕ → ℕ) → AsksOpt words settings.now

@@ -1,5 +1,5 @@
 //! The planned program of files, made in the pools of a loader and put out from there.
-ghost use Rattle.std.specs.Prelude.{◌≡◌, ◌<◌, ℕ, List, [], Option, IfOk, IfErr, IsErr, OnOk, IsSome, IfSome, None};
+ghost use Rattle.std.specs.Prelude.{◌≡◌, ℕ, List, [], Option, IfOk, IfErr, IsErr, OnOk, IsSome, IfSome, None};
 ghost use Rattle.linker.specs.Linking.{refusal};
 ghost use Rattle.outside.specs.Faults.{NoneFalls};
 ghost use Rattle.outside.specs.Told.{SameFiles, Told};
@@ -10,10 +10,11 @@ ghost use Rattle.c_module.specs.Told.{AreQuiet, AreRefused, AreWellFormedTexts};
 ghost use Rattle.hlo_words.specs.declared.settings.OptSettings.{OptSettings as Settings};
 ghost use Rattle.naim_loader.specs.Paged.{IsGood};
 ghost use Rattle.hlo_cmd.specs.Messages.{loader_refusal};
+ghost use Rattle.hlo_cmd.specs.Opt.{IsInRange};
 ghost use Rattle.hlo_cmd.specs.Paging.{HasPlanned, HasPrinted, IsAtPrinting, IsFillingCause, IsLate, IsOptCause, IsPlanningCause, IsUnreadRefusal};
 ghost use Rattle.hlo_cmd.specs.Pools.{AreOfFiles, GoesOn, IsReady, Remains, inserted};
 ghost use Rattle.one_owner.specs.Alone.{IsResting};
-ghost use Rattle.plan_driver.specs.Contents.{HavePools};
+ghost use Rattle.plan_pools.specs.Contents.{HavePools};
 
 use crate::paging::Paging;
 use crate::refusal::{Refusal, loader_refusal, program_refusal};
@@ -23,7 +24,7 @@ use hlo_words::OptSettings;
 use il_core::{Object, Shapes};
 use il_run::main_of;
 use outside::{Disk, Shelf, Sink};
-use plan_driver::{PlanLoader, PrintFault, optimise, plan_at_zero, print};
+use plan_driver::{PlanLoader, PrintFault, optimise, plan_is_worth, print};
 use profile::Profile;
 use std::alloc::Global;
 use sym_tables::ProgramSyms;
@@ -40,7 +41,7 @@ pub(crate) fn print_files<'a, S: Shelf, O: Sink, D: Disk + Drop>(
     syms: &mut ProgramSyms,
 ) -> Result<(), Refusal<'a>>
     requires names { syms.old ≡ [] }
-    requires passes { 0 < settings.now.passes }
+    requires range { IsInRange settings.now }
     requires limit { paging.old.loader.core.limit ≡ settings.now.limit }
     requires ready { IsReady paging.old.loader paging.old.pids.items paging.old.cost }
     requires none { inserted paging.old.loader ≡ [] }
@@ -106,7 +107,7 @@ fn print_taken<'a, O: Sink, D: Disk + Drop>(
     out: &mut O,
     syms: &ProgramSyms,
 ) -> Result<(), Refusal<'a>>
-    requires passes { 0 < settings.now.passes }
+    requires range { IsInRange settings.now }
     requires limit { paging.old.loader.core.limit ≡ settings.now.limit }
     requires ready { IsReady paging.old.loader paging.old.pids.items paging.old.cost }
     requires taken { AreOfFiles (inserted paging.old.loader) syms.now }
@@ -135,7 +136,7 @@ fn plan_taken<'a, D: Disk + Drop>(
     paging: &mut Paging<D>,
     syms: &ProgramSyms,
 ) -> Result<(Shapes, Seq<Object>), Refusal<'a>>
-    requires passes { 0 < settings.now.passes }
+    requires range { IsInRange settings.now }
     requires limit { paging.old.loader.core.limit ≡ settings.now.limit }
     requires ready { IsReady paging.old.loader paging.old.pids.items paging.old.cost }
     requires taken { AreOfFiles (inserted paging.old.loader) syms.now }
@@ -151,12 +152,19 @@ fn plan_taken<'a, D: Disk + Drop>(
     ensures late { IfErr result IsLate }
     ensures reads { IfErr result (λ r. IsUnreadRefusal r → ⊥) }
 {
-    plan_at_zero();
+    plan_is_worth();
     let Ok((shapes, objects)) = program_frame(alloc, syms, paging.pids.as_slice()) else {
         return Err(Refusal::Memory);
     };
     let main = main_of(&shapes);
-    match optimise(alloc, &mut paging.loader, shapes, main, settings.passes) {
+    match optimise(
+        alloc,
+        &mut paging.loader,
+        shapes,
+        main,
+        settings.budget,
+        settings.passes,
+    ) {
         Ok(planned) => {
             paging.planned = planned.cost;
             Ok((planned.shapes, objects))

@@ -4,14 +4,14 @@ use Rattle.hlo_words.specs.declared.settings.OptSettings.{OptSettings}
 use Rattle.naim_loader.specs.Paged.{IsGood}
 use Rattle.hlo_cmd.specs.Messages.{Says}
 use Rattle.hlo_cmd.proofs.Fronts.{keeps_itself}
-use Rattle.hlo_cmd.proofs.Opts.{limit_most, opt_words, passes_some}
+use Rattle.hlo_cmd.proofs.Opts.{in_range, limit_most, opt_words}
 use Rattle.hlo_cmd.proofs.Verdicts.{said_by, status_by}
 use Rattle.hlo_cmd.proofs.opt.opt_command.Goals as goal
 
 pub serve_settings-requires : goal.serve_settings-requires
 serve_settings-requires g c = record {
   limit = limit_most _ c.in-Ok.settings c.in-Ok.ensures.ok;
-  passes = passes_some _ c.in-Ok.settings c.in-Ok.ensures.ok;
+  range = in_range _ c.in-Ok.settings c.in-Ok.ensures.ok;
 }
 
 pub returns-in-Ok-clause-good : goal.returns-in-Ok-clause-good

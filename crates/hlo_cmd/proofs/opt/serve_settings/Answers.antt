@@ -6,7 +6,7 @@ use Rattle.profile.specs.Counts.{counts_of}
 use Rattle.hlo_cmd.specs.Messages.{Says}
 use Rattle.hlo_cmd.specs.Profiles.{HasCounts}
 use Rattle.hlo_cmd.proofs.Fronts.{keeps_itself}
-use Rattle.hlo_cmd.proofs.Opts.{opt_profile}
+use Rattle.hlo_cmd.proofs.Opts.{opt_memory, opt_profile}
 use Rattle.hlo_cmd.proofs.Verdicts.{said_by, status_by}
 use Rattle.hlo_cmd.proofs.opt.serve_settings.Goals as goal
 
@@ -28,3 +28,8 @@ returns-in-Ok-new-clause-promise g c = λ words asked.
     let at = c.new-paging.ensures.loader ∙ c.in-Ok-new.ensures.made in
     let promise = c.serve_pools.ensures.promise words (g.S.Shelf.faults c.args.shelf.now) asked counted c.in-Ok.ensures.counts in
     rw (told, at) at promise
+
+pub returns-clause-promise : goal.returns-clause-promise
+returns-clause-promise g c = λ words asked.
+    rw c.refused-in-Err-new-2.ensures (opt_memory words _ _ _ _ _ _ _ (λ n. IsGood g.D.Disk.reach g.D.Disk.honest n c.args.disk) _ _ (Says _ _ _ _) _
+    c.refused-in-Err-new.ensures.status c.refused-in-Err-new.ensures.line (keeps_itself _))

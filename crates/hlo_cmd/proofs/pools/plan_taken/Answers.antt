@@ -17,9 +17,9 @@ returns-in-Ok-optimise-clause-ok g c = λ counts tells routines.
     let s = c.args.settings.now in
     let frame = c.in-Ok.ensures.program counts tells s.files (inserted l) routines (c.as_slice.ensures.value ∙ c.requires.ready.pids_are) in
     has_planned g.D.Disk.reach g.D.Disk.honest g.D.Disk.faults l c.args.paging.now.pids.items c.args.paging.now.cost c.requires.ready s counts tells
-    c.in-Ok.shapes c.in-Ok.objects c.args.syms.now c.main_of-main.result c.main_of-main.ensures c.requires.limit frame c.plan_at_zero.ensures.plan
-    c.plan_at_zero.ensures.good c.optimise.new.loader c.in-Ok-optimise.planned.shapes c.in-Ok-optimise.planned.cost c.in-Ok-optimise.ensures.made
-    (c.in-Ok-optimise.ensures.cost c.requires.passes)
+    c.in-Ok.shapes c.in-Ok.objects c.args.syms.now c.main_of-main.result c.main_of-main.ensures c.requires.limit frame c.plan_is_worth.ensures
+    c.requires.range c.optimise.new.loader c.in-Ok-optimise.planned.shapes c.in-Ok-optimise.planned.cost c.in-Ok-optimise.ensures.made
+    (c.in-Ok-optimise.ensures.cost c.requires.range.some)
 
 pub returns-in-Err-clause-err : goal.returns-in-Err-clause-err
 returns-in-Err-clause-err g c = λ counts tells routines.
