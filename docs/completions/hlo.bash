@@ -11,12 +11,12 @@ _hlo() {
       [ "$before" = --turns ] && return
       case $word in -*) mapfile -t COMPREPLY < <(compgen -W "--turns" -- "$word"); return ;; esac ;;
     opt)
-      case $before in --limit | --passes) return ;; esac
+      case $before in --limit | --budget | --passes) return ;; esac
       if [ "$before" = --profile ]; then
         mapfile -t COMPREPLY < <(compgen -f -- "$word")
         return
       fi
-      case $word in -*) mapfile -t COMPREPLY < <(compgen -W "--limit --passes --profile --stats" -- "$word"); return ;; esac ;;
+      case $word in -*) mapfile -t COMPREPLY < <(compgen -W "--limit --budget --passes --profile --stats" -- "$word"); return ;; esac ;;
     check) ;;
     *) return ;;
   esac

@@ -7,6 +7,7 @@ complete -c hlo -n __fish_use_subcommand -f -a runil -d 'Run the program whose I
 complete -c hlo -n __fish_use_subcommand -l help -d 'Print the usage'
 complete -c hlo -n __fish_use_subcommand -l version -d 'Print the version'
 complete -c hlo -n '__fish_seen_subcommand_from opt' -l limit -x -d 'At most so many bytes of routines in memory'
+complete -c hlo -n '__fish_seen_subcommand_from opt' -l budget -x -d 'At most so many percent dearer'
 complete -c hlo -n '__fish_seen_subcommand_from opt' -l passes -x -d 'So many passes over the program'
 complete -c hlo -n '__fish_seen_subcommand_from opt' -l stats -d 'Tell what was kept and moved'
 complete -c hlo -n '__fish_seen_subcommand_from opt' -l profile -r -d 'The counts of this profile'
